@@ -11,7 +11,7 @@ use Rattle.std.specs.Of.Vec.{vec-items}
 use Rattle.kripke.specs.Structure.{Kripke, State, Member, Closed, Lawful, blank, size, state, successors}
 use Rattle.panel.specs.Checks.{Shown, Filled, Sound, Ends}
 use Rattle.panel.specs.Image.{states, initial, first, Chain, Link}
-use Rattle.panel.specs.Labels.{Coding}
+use Rattle.labels.specs.Kinds.{Coding}
 use Rattle.panel.specs.Loading.{Describes, GoodLink}
 use Rattle.panel.specs.Stored.{rowState, rowsMean, nexts, Onward, Narrow, Inside}
 use Rattle.panel.specs.declared.image.Header.{Header}

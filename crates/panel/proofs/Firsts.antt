@@ -1,26 +1,17 @@
 -- The first breach of an image, for each way that the check can end.
 use mathlib.Core.List.{List}
 use mathlib.Core.Path.{_≡_, refl, sym, subst}
-use mathlib.Core.Logic.{_⊎_, inl, inr}
 use Prim.Native.Nat.{ℕ, _+_, _*_, _-_, _≤_, _<_}
 use native.Mathlib.Omega.{arith}
 use lib.ListN.{length}
-use Rattle.kripke.specs.Refusals.{numberOf, Before, First, Clean}
+use Rattle.kripke.proofs.Orders.{lower, same-lower}
+use Rattle.kripke.specs.Refusals.{Before, First, Clean}
 use Rattle.kripke.specs.declared.refusal.Cause.{Cause}
 use Rattle.kripke.specs.declared.refusal.Cause.the-variants.{ShortImage, HeaderField, ImageLength, StateRecord, LinkRecord, LongChain}
 use Rattle.kripke.specs.declared.refusal.Layer.{Layer}
-use Rattle.panel.specs.Labels.{Coding}
+use Rattle.labels.specs.Kinds.{Coding}
 use Rattle.panel.specs.Image.{byteAt, kindOf, states, links, initial, whole, stateAt, linkAt, first, Link, Walk}
 use Rattle.panel.specs.Loading.{BadField, kind, gap, stateCount, linkCount, begins, GoodState, GoodLink, Breach, short, field, sized, entry, link, chain}
-
--- what (j, q) before (k, p) says of the numbers, and of the places where the numbers are one
-pub lower : {j q k p : ℕ} → (j < k) ⊎ ((j ≡ k) × (q < p)) → j ≤ k
-lower (inl h) = omega arith
-lower (inr h) = omega arith
-
-pub same-lower : {q k p : ℕ} → (k < k) ⊎ ((k ≡ k) × (q < p)) → q < p
-same-lower (inl h) = omega arith
-same-lower (inr h) = h .1
 
 module _ (c : Coding) (img : List ℕ) where
   -- the fields before a place are in order

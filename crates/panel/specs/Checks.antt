@@ -11,7 +11,7 @@ use Rattle.kripke.specs.Structure.{State, blank}
 use Rattle.kripke.specs.declared.refusal.Cause.{Cause}
 use Rattle.kripke.specs.declared.refusal.Layer.{Layer}
 use Rattle.kripke.specs.declared.refusal.Refusal.{Refusal}
-use Rattle.panel.specs.Labels.{Coding}
+use Rattle.labels.specs.Kinds.{Coding}
 use Rattle.panel.specs.Image.{states, links, initial, labelBytes, first, Chain}
 use Rattle.panel.specs.Loading.{GoodState, GoodLink, BadField, Breach}
 use Rattle.panel.specs.declared.image.Header.{Header}

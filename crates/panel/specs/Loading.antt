@@ -11,7 +11,7 @@ use Rattle.kripke.specs.declared.refusal.Cause.{Cause}
 use Rattle.kripke.specs.declared.refusal.Cause.the-variants.{ShortImage, HeaderField, ImageLength, StateRecord, LinkRecord, LongChain}
 use Rattle.kripke.specs.declared.refusal.Layer.{Layer}
 use Rattle.kripke.specs.declared.refusal.Layer.the-variants.{FirstImage, SecondImage}
-use Rattle.panel.specs.Labels.{Coding}
+use Rattle.labels.specs.Kinds.{Coding}
 use Rattle.panel.specs.Image.{byteAt, kindOf, states, links, initial, whole, stateAt, labelBytes, first, linkAt, target, after, Link, Chain, Walk}
 use Rattle.panel.specs.declared.slot.Slot.{Slot}
 use Rattle.panel.specs.declared.slot.Slot.the-variants.{First, Second}

@@ -9,10 +9,10 @@ ghost use Rattle.std.specs.Options.{mapped};
 ghost use Rattle.std.specs.Results.{Cases};
 ghost use lib.ListN.{length};
 ghost use mathlib.Core.Path.{_≡_};
-use crate::coded::Coded;
 use kripke::refusal::Cause;
 use kripke::refusal::Layer;
 use kripke::refusal::Refusal;
+use labels::coded::Coded;
 
 // The numbers of an image's header.
 #[derive(Clone, Copy)]

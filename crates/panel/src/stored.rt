@@ -2,6 +2,7 @@ ghost use Prim.Native.Nat.{ℕ, _<_, _≤_};
 ghost use Rattle.panel.specs.Stored.{Inside, Narrow, Onward};
 ghost use Rattle.std.specs.Of.Vec.{vec-items};
 ghost use lib.ListN.{length};
+pub use asks::StoredModelModel;
 
 // One state: its label and its successors.
 #[derive(Drop)]

@@ -11,13 +11,13 @@ ghost use mathlib.Core.List.{map};
 ghost use mathlib.Core.Path.{_≡_};
 use super::Row;
 use super::StoredModel;
-use crate::coded::Coded;
 use crate::image;
 use crate::image::Header;
 use crate::slot::Slot;
 use kripke::refusal::Error;
 use kripke::refusal::ErrorFromAlloc;
 use kripke::refusal::ErrorFromRefusal;
+use labels::coded::Coded;
 use std::alloc::AllocError;
 use std::alloc::Global;
 

@@ -9,7 +9,7 @@ use Rattle.kripke.specs.declared.refusal.Layer.{Layer}
 use Rattle.kripke.specs.declared.refusal.Refusal.{Refusal}
 use Rattle.panel.specs.Checks.{Headed}
 use Rattle.panel.specs.Image.{whole}
-use Rattle.panel.specs.Labels.{Coding}
+use Rattle.labels.specs.Kinds.{Coding}
 use Rattle.panel.specs.Loading.{Breach}
 use Rattle.panel.specs.declared.image.Header.{Header}
 use Rattle.panel.proofs.Firsts.{first-state, first-link, first-chain, no-breach}

@@ -1,4 +1,4 @@
-ghost use Rattle.panel.specs.Labels.{Coding};
+ghost use Rattle.labels.specs.Kinds.{Coding};
 ghost use Rattle.std.specs.Options.{mapped};
 ghost use Rattle.std.specs.declared.option.Option.the-variants.{Some};
 ghost use mathlib.Core.Path.{_≡_};

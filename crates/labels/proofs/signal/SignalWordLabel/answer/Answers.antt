@@ -1,8 +1,8 @@
 use mathlib.Core.Path.{sym, _∙_}
 use native.Mathlib.Omega.{arith}
 use Rattle.std.proofs.shelf.Tests.{le-ltb}
-use Rattle.panel.proofs.Words.{bits-at, bits-past, masked}
-use Rattle.panel.proofs.signal.SignalWordLabel.answer.Needs as need
+use Rattle.labels.proofs.Words.{bits-at, bits-past, masked}
+use Rattle.labels.proofs.signal.SignalWordLabel.answer.Needs as need
 
 pub returns-then-i-lt32 : need.returns-then-i-lt32
 returns-then-i-lt32 c =

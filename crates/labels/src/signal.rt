@@ -1,4 +1,4 @@
-ghost use Rattle.panel.specs.Labels.{bits, words};
+ghost use Rattle.labels.specs.Kinds.{bits, words};
 use crate::coded::Coded;
 use kripke::label::Label;
 

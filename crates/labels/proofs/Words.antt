@@ -9,7 +9,7 @@ use lib.Dec.{eqb}
 use lib.ListN.{length, getD}
 use Rattle.std.proofs.shelf.Counted.{length-map-counting, getD-map-counting}
 use Rattle.std.proofs.shelf.Lists.{getD-past}
-use Rattle.panel.specs.Labels.{bit, bits}
+use Rattle.labels.specs.Kinds.{bit, bits}
 
 pub length-bits : (w : ℕ) → length (bits w) ≡ 32
 unfolding bits

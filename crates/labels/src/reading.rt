@@ -1,6 +1,6 @@
 ghost use Prim.Native.Nat.{_<_};
-ghost use Rattle.panel.specs.Bands.{shows};
-ghost use Rattle.panel.specs.Labels.{bands, readings};
+ghost use Rattle.labels.specs.Bands.{shows};
+ghost use Rattle.labels.specs.Kinds.{bands, readings};
 ghost use Rattle.std.specs.Options.{Cases};
 ghost use mathlib.Core.Path.{_≡_};
 use crate::coded::Coded;
