@@ -1,2 +1,16 @@
-pub mod Tables
 pub mod Tellings
+pub mod Tables
+pub mod Walks
+pub mod Either
+pub mod Bisim
+pub mod Sound
+pub mod Separate
+pub mod Reflect
+pub mod Numbers
+pub mod Settle
+pub mod Growth
+pub mod Untils
+pub mod Decide
+pub mod Equal
+pub mod Counts
+pub mod Closing
