@@ -5,7 +5,7 @@ use Prim.Native.Nat.{ℕ, zero, suc}
 use Rattle.kripke.specs.Structure.{Kripke, answer}
 use Rattle.kripke.specs.Ctl.{Formula, truth, question, and, or, EX, AX, EF, AF, EG, AG, EU, AU}
 use Rattle.kripke.specs.Ctl.{Path, Next, Always, Until, OnSome, OnEach, Anything, Holds}
-use Rattle.kripke.specs.Rounds.{Matched}
+use Rattle.kripke.specs.Rounds.{Matched, Same}
 
 -- R is a bisimulation between the states of a and those of b.
 pub record Bisim (a b : Kripke) (R : ℕ → ℕ → Type 0) : Type 0 where
@@ -80,3 +80,12 @@ agree a b R z (EG f) = some-alike a b R z _ _ (always-alike R _ _ (agree a b R z
 agree a b R z (AG f) = each-alike a b R z _ _ (always-alike R _ _ (agree a b R z f))
 agree a b R z (EU f g) = some-alike a b R z _ _ (until-alike R _ _ (agree a b R z f) _ _ (agree a b R z g))
 agree a b R z (AU f g) = each-alike a b R z _ _ (until-alike R _ _ (agree a b R z f) _ _ (agree a b R z g))
+
+-- Related states are the same after any number of rounds.
+pub bisim-same : (a b : Kripke) (R : ℕ → ℕ → Type 0) → Bisim a b R → (k s t : ℕ) → R s t → Same a b k s t
+bisim-same a b R z zero s t r = λ i. z .alike s t i r
+bisim-same a b R z (suc k) s t r =
+    ( bisim-same a b R z k s t r
+    , λ u m. (let (v, m′, r′) = z .forth s t r u m in (v, m′, bisim-same a b R z k u v r′))
+    , λ v m. (let (u, m′, r′) = z .back s t r v m in (u, m′, bisim-same a b R z k u v r′))
+    )

@@ -14,3 +14,5 @@ pub mod Decide
 pub mod Equal
 pub mod Counts
 pub mod Closing
+pub mod Unions
+pub mod Classing
