@@ -3,10 +3,11 @@ use mathlib.Core.Path.{_≡_, refl, sym, subst}
 use mathlib.Core.Logic.{_⊎_, inl, inr, ⊎-elim}
 use Prim.Native.Nat.{ℕ, zero, suc, _+_, _-_, _<_, _≤_}
 use native.Mathlib.Omega.{arith}
+use Rattle.std.proofs.shelf.Tests.{cases-lt}
 use Rattle.kripke.specs.Structure.{Kripke, Closed, Lawful, size}
 use Rattle.kripke.specs.Ctl.{Formula, Holds, NextOnly, nesting}
-use Rattle.kripke.specs.Rounds.{Same, Separates, Separated, Together, ClassOf, Settled, ClosedDifferent, ClosedAlike, home, place, total}
-use Rattle.kripke.specs.Theorems.{Apart, ApartByRounds, ModelsApart, ClosedAfter, FirstClosed, ClosesInTime, AlikeAgree, DifferentSeparated, ClassByFormulas, Inseparable}
+use Rattle.kripke.specs.Rounds.{Same, Separates, Apart, Separated, Together, Inseparable, ClassOf, Settled, ClosedDifferent, ClosedAlike, ClosedAfter, FirstClosed, home, place, total}
+use Rattle.kripke.specs.Theorems.{ApartByRounds, ModelsApart, ClosesInTime, AlikeAgree, DifferentSeparated, ClassByFormulas}
 use Rattle.kripke.proofs.Either.{Either, either-not, either-and, either-or, surely, below-or, least-of}
 use Rattle.kripke.proofs.Reflect.{same-either}
 use Rattle.kripke.proofs.Sound.{unseparated, least-nesting}
@@ -54,6 +55,12 @@ closes-in-time q a b la lb =
     let done : ClosedAfter a b (suc j) = ⊎-elim (λ h. inr (st, h)) (λ n. inl n) (same-either a b (suc j) (a .initial) (b .initial)) in
     let (k, l′, z, before) = least-of (ClosedAfter a b) (closed-either a b) (suc (suc j)) (suc j) (omega arith) done in
     (k, omega arith, (z, before))
+
+-- While it is open after every number of rounds up to k, there are more states than that.
+pub still-open : (q : ℕ) (a b : Kripke) → Lawful q a → Lawful q b → (k : ℕ) → ((j : ℕ) → j ≤ k → ClosedAfter a b j → ⊥) → k < total a b
+still-open q a b la lb k still =
+    let (n, l, (z, _)) = closes-in-time q a b la lb in
+    ⊎-elim (λ h. omega arith) (λ (h : n ≤ k). absurd (still n h z)) (cases-lt k n)
 
 pub alike-agree : AlikeAgree
 alike-agree q a b la lb zero z = absurd z

@@ -61,3 +61,16 @@ settled-at a b k settled x y on-x on-y s t hs ht h =
     let (j, lj, yj, tj) = on-y t ht in
     same-at (home a b i) x (home a b j) y (suc k) (place a b i) s (place a b j) t xi yj si tj
       (settled i j li lj (same-at x (home a b i) y (home a b j) k s (place a b i) t (place a b j) (sym xi) (sym yj) (sym si) (sym tj) h))
+
+-- Once nothing is split, nothing ever is.
+pub settled-on : (a b : Kripke) → Closed a → Closed b → (k : ℕ) → Settled a b k → Settled a b (suc k)
+settled-on a b la lb k settled i j hi hj h =
+    let on = settled-at a b k settled (home a b i) (home a b j) (home-listed a b i) (home-listed a b j) in
+    let ci = home-closed a b la lb i in
+    let cj = home-closed a b la lb j in
+    let si = place-inside a b i hi in
+    let sj = place-inside a b j hj in
+    ( h
+    , λ u m. (let (v, m′, r) = h .1 u m in (v, m′, on u v (ci .inside (place a b i) u si m) (cj .inside (place a b j) v sj m′) r))
+    , λ v m. (let (u, m′, r) = h .2 v m in (u, m′, on u v (ci .inside (place a b i) u si m′) (cj .inside (place a b j) v sj m) r))
+    )

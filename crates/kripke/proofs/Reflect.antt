@@ -1,6 +1,6 @@
 -- The test of the rounds answers yes exactly for states that are the same.
 use mathlib.Core.Path.{_≡_, refl, sym, _∙_, subst}
-use mathlib.Core.Bool.{Bool, true, false, _&&_, _||_, Bool·beq}
+use mathlib.Core.Bool.{Bool, true, false, not, _&&_, _||_, Bool·beq}
 use mathlib.Core.List.{List, [], _∷_}
 use mathlib.Core.Logic.{_⊎_, inl, inr, _↔_, ⊎-elim, ⊎-map}
 use Prim.Native.Nat.{ℕ, zero, suc, max, _<_, _≤_}
@@ -11,8 +11,8 @@ use lib.ListN.{length, getD}
 use Rattle.std.proofs.shelf.Tests.{eqb-true, eq-eqb, cases-lt}
 use Rattle.std.proofs.shelf.Lists.{getD-past}
 use Rattle.kripke.specs.Structure.{Kripke, Member, state, successors}
-use Rattle.kripke.specs.Rounds.{Same, Together, home, place}
-use Rattle.kripke.specs.Tests.{every, some, below, agree, same, together}
+use Rattle.kripke.specs.Rounds.{Same, Together, Settled, home, place, total}
+use Rattle.kripke.specs.Tests.{every, some, below, agree, same, together, settled}
 use Rattle.kripke.specs.Theorems.{TestReflects}
 use Rattle.kripke.proofs.Either.{Either, either-T}
 
@@ -100,3 +100,17 @@ together-T a b k i j = same-T (home a b i) (home a b j) k (place a b i) (place a
 -- So the rounds decide: two states are the same after k of them, or they are not.
 pub same-either : (a b : Kripke) (k s t : ℕ) → Either (Same a b k s t)
 same-either a b k s t = ⊎-map (same-T a b k s t .0) (λ n h. n (same-T a b k s t .1 h)) (either-T (same a b k s t))
+
+implied-T : (x y : Bool) → T (not x || y) ↔ (T x → T y)
+implied-T true y = (λ h t. h, λ f. f tt)
+implied-T false y = (λ h t. absurd t, λ f. tt)
+
+pub settled-T : (a b : Kripke) (k : ℕ) → T (settled a b k) ↔ Settled a b k
+unfolding settled
+settled-T a b k =
+    let row = λ (i : ℕ). below-T (λ j. not (together a b k i j) || together a b (suc k) i j) (total a b) in
+    let all = below-T (λ i. below (λ j. not (together a b k i j) || together a b (suc k) i j) (total a b)) (total a b) in
+    ( λ h i j hi hj t. together-T a b (suc k) i j .0 (implied-T (together a b k i j) (together a b (suc k) i j) .0 (row i .0 (all .0 h i hi) j hj) (together-T a b k i j .1 t))
+    , λ h. all .1 (λ i hi. row i .1 (λ j hj. implied-T (together a b k i j) (together a b (suc k) i j) .1
+        (λ t. together-T a b (suc k) i j .1 (h i j hi hj (together-T a b k i j .0 t)))))
+    )

@@ -5,7 +5,8 @@ use Prim.Native.Nat.{ℕ, suc, _<_, _≤_}
 use lib.Dec.{T}
 use Rattle.kripke.specs.Structure.{Kripke, Closed, Lawful, size}
 use Rattle.kripke.specs.Ctl.{Formula, Holds, NextOnly, nesting}
-use Rattle.kripke.specs.Rounds.{Same, Separates, Separated, Together, Settled, ClassOf, ClosedDifferent, ClosedAlike, total, home, place}
+use Rattle.kripke.specs.Rounds.{Same, Separates, Apart, Separated, total, home, place, Together, Inseparable, ClassOf, Settled}
+use Rattle.kripke.specs.Rounds.{ClosedDifferent, ClosedAlike, FirstClosed}
 use Rattle.kripke.specs.Tests.{same}
 use Rattle.kripke.specs.Classes.{Classes}
 
@@ -20,9 +21,6 @@ SameOrSeparated = (a b : Kripke) → Closed a → Closed b → (k s t : ℕ) →
     → Same a b k s t ⊎ Separated a b k s t
 
 -- The class number of a state is the least number of a state that no next-only formula of nesting k or less separates from it.
-abbrev pub Inseparable : Kripke → Kripke → ℕ → ℕ → ℕ → Type 0
-Inseparable a b k i j = Separated (home a b i) (home a b j) k (place a b i) (place a b j) → ⊥
-
 abbrev pub ClassByFormulas : Type 0
 ClassByFormulas = (a b : Kripke) → Closed a → Closed b → (k i c : ℕ) → i < total a b → c < total a b
     → ClassOf a b k i c ↔ (Inseparable a b k i c × ((j : ℕ) → j < total a b → Inseparable a b k i j → c ≤ j))
@@ -31,10 +29,6 @@ ClassByFormulas = (a b : Kripke) → Closed a → Closed b → (k i c : ℕ) →
 abbrev pub SettledAgree : Type 0
 SettledAgree = (a b : Kripke) → Closed a → Closed b → (k : ℕ) → Settled a b k → (i j : ℕ) → i < total a b → j < total a b → Together a b k i j
     → (f : Formula) → Holds (home a b i) f (place a b i) ↔ Holds (home a b j) f (place a b j)
-
--- Some CTL formula, of any size, separates the two states.
-abbrev pub Apart : Kripke → Kripke → ℕ → ℕ → Type 0
-Apart a b s t = (f : Formula) × Separates a b s t f
 
 -- Some CTL formula separates two states exactly when some round tells them apart;
 abbrev pub ApartByRounds : Type 0
@@ -52,12 +46,6 @@ LeastNesting = (a b : Kripke) → Closed a → Closed b → (k s t : ℕ) → s 
     → (f : Formula) → NextOnly f → Separates a b s t f → k < nesting f
 
 -- Closing comes within as many rounds as there are states: k rounds close the comparison, and fewer do not.
-abbrev pub ClosedAfter : Kripke → Kripke → ℕ → Type 0
-ClosedAfter a b k = ClosedDifferent a b k ⊎ ClosedAlike a b k
-
-abbrev pub FirstClosed : Kripke → Kripke → ℕ → Type 0
-FirstClosed a b k = ClosedAfter a b k × ((j : ℕ) → j < k → ClosedAfter a b j → ⊥)
-
 abbrev pub ClosesInTime : Type 0
 ClosesInTime = (q : ℕ) (a b : Kripke) → Lawful q a → Lawful q b → (k : ℕ) × (k ≤ total a b) × FirstClosed a b k
 
