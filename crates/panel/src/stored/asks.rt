@@ -1,7 +1,9 @@
-ghost use Rattle.kripke.specs.Structure.{orFirst};
+ghost use Prim.Native.Nat.{_≤_};
+ghost use Rattle.kripke.specs.Structure.{state};
 ghost use mathlib.Core.Path.{_≡_};
 ghost use Rattle.panel.specs.Held.{meaningOf};
-ghost use Rattle.std.specs.Of.Vec.{vec-items};
+ghost use Rattle.panel.specs.Stored.{rowState};
+ghost use Rattle.std.specs.Of.Vec.{vec-len};
 use super::Row;
 use super::StoredModel;
 use kripke::label::Label;
@@ -35,10 +37,11 @@ pub impl<L: Label> Model for StoredModel<L> as StoredModelModel {
     }
 }
 
-impl<L> StoredModel<L> {
+impl<L: Label> StoredModel<L> {
     // The row of state s, and past the last that of state 0.
     fn row(&self, s: usize) -> &Row<L>
-        ensures { λ r. ⌜ now r ≡ orFirst (vec-items (now (self .entry) .rows)) s (now r) ⌝ }
+        ensures meant { λ r. ⌜ state (meaningOf (L·Label .answers) (now (self .entry))) s ≡ rowState (L·Label .answers) (now r) ⌝ }
+        ensures onward { λ r. ⌜ 1 ≤ vec-len (now r .next) ⌝ }
     {
         let s = if s < self.rows.len() { s } else { 0 };
         &self.rows[s]
