@@ -1,5 +1,6 @@
 // Decides CTL formulas on any model: at which states the formula of each node of a table holds.
 
+mod operators;
 mod row;
 
 // What an evaluation answers of the root: whether it holds at the initial state, and at how many states it holds.

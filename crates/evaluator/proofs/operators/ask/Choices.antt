@@ -1,0 +1,4 @@
+use Rattle.evaluator.proofs.operators.ask.Given as given
+
+abbrev pub Inv-loop-s : given.InvT-loop-s
+Inv-loop-s g l = ?
