@@ -53,8 +53,8 @@ higher-power j k h =
 other-power : (j k : ℕ) → (j ≡ k → ⊥) → 2 ^ k / 2 ^ j % 2 ≡ 0
 other-power j k ne =
     ⊎-elim (λ e. absurd (ne e))
-      (⊎-elim (λ h. higher-power j k h) (λ h. ap (λ (x : ℕ). x % 2) (div-eq-of-lt (pow-below k j h))))
-      (cases-order j k)
+    (⊎-elim (λ h. higher-power j k h) (λ h. ap (λ (x : ℕ). x % 2) (div-eq-of-lt (pow-below k j h))))
+    (cases-order j k)
 
 pub power-bit : (j k : ℕ) → bit (2 ^ k) j ≡ eqb j k
 power-bit j k = ⊎-elim
@@ -76,6 +76,6 @@ pub low-bit : (m j : ℕ) → bit (2 ^ m - 1) j ≡ ltb j m
 low-bit m j = ⊎-elim
     (λ (b : j < m). kept-bit (2 ^ m - 1) j (and-mask (2 ^ j) m ∙ mod-eq-of-lt (pow-below j m b)) ∙ sym (lt-ltb j m b))
     (λ (b : m ≤ j).
-        let small : 2 ^ m - 1 < 2 ^ j = omega (arith, pow-mono b, pow-pos m) in
-        ap (λ (x : ℕ). eqb (x % 2) 1) (div-eq-of-lt small) ∙ sym (le-ltb j m b))
+    let small : 2 ^ m - 1 < 2 ^ j = omega (arith, pow-mono b, pow-pos m) in
+    ap (λ (x : ℕ). eqb (x % 2) 1) (div-eq-of-lt small) ∙ sym (le-ltb j m b))
     (cases-lt j m)

@@ -6,3 +6,8 @@ pub mod Ways
 pub mod Nexts
 pub mod Untils
 pub mod Sweeps
+pub mod Turns
+pub mod Meanings
+pub mod Breaches
+pub mod Filling
+pub mod Numbers

@@ -38,10 +38,10 @@ module _ (k : Kripke) (law : Closed k) (f : ℕ → Bool) where
 pub next-divides : (q : ℕ) (k : Kripke) (law : Lawful q k) (e : Bool) (f r : ℕ → Bool)
     → ((s : ℕ) → s < 256 → r s ≡ (ltb s (size k) && steps e f (successors k s))) → Divides k e (Next (Marked f)) r
 next-divides q k law e f r is = record {
-    yes = λ s h on. next-yes k (law .closed) f e s h (sym (here s h) ∙ on);
-    no = λ s h off. next-no k (law .closed) f e s h (sym (here s h) ∙ off);
-    beyond = λ s h l. is s l ∙ and-left (ltb s (size k)) (steps e f (successors k s)) (le-ltb s (size k) h);
-  }
+  yes = λ s h on. next-yes k (law .closed) f e s h (sym (here s h) ∙ on);
+  no = λ s h off. next-no k (law .closed) f e s h (sym (here s h) ∙ off);
+  beyond = λ s h l. is s l ∙ and-left (ltb s (size k)) (steps e f (successors k s)) (le-ltb s (size k) h);
+}
   where
     here : (s : ℕ) → s < size k → r s ≡ steps e f (successors k s)
     here s h = is s (omega (arith, law .few)) ∙ ap (λ (b : Bool). b && steps e f (successors k s)) (lt-ltb s (size k) h)

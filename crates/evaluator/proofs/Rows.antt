@@ -39,15 +39,15 @@ marked-row ws s four hs t ht =
     let v : ℕ = bitOr w (2 ^ (s % 64)) in
     ap (λ (x : ℕ). marks (set ws (s / 64) (bitOr w x)) t) (one-shl (s % 64) 64 (omega arith))
     ∙ ⊎-elim
-      (λ (e : t / 64 ≡ s / 64).
-          ap (λ (x : ℕ). bit x (t % 64)) (ap (λ (x : ℕ). getD (set ws (s / 64) v) x 0) e ∙ getD-set-same ws (s / 64) v 0 (omega arith))
-          ∙ or-bit w (2 ^ (s % 64)) (t % 64) ∙ swapped (bit w (t % 64)) (bit (2 ^ (s % 64)) (t % 64))
-          ∙ ap (λ (b : Bool). b || bit w (t % 64)) (power-bit (t % 64) (s % 64) ∙ same-place s t e)
-          ∙ ap (λ (x : ℕ). eqb t s || bit (getD ws x 0) (t % 64)) (sym e))
-      (λ (ne : t / 64 ≡ s / 64 → ⊥).
-          ap (λ (x : ℕ). bit x (t % 64)) (getD-set-other ws (s / 64) (t / 64) v 0 ne)
-          ∙ ap (λ (b : Bool). b || marks ws t) (sym (ne-eqb t s (λ same. ne (ap (λ (x : ℕ). x / 64) same)))))
-      (cases-eq (t / 64) (s / 64))
+    (λ (e : t / 64 ≡ s / 64).
+    ap (λ (x : ℕ). bit x (t % 64)) (ap (λ (x : ℕ). getD (set ws (s / 64) v) x 0) e ∙ getD-set-same ws (s / 64) v 0 (omega arith))
+    ∙ or-bit w (2 ^ (s % 64)) (t % 64) ∙ swapped (bit w (t % 64)) (bit (2 ^ (s % 64)) (t % 64))
+    ∙ ap (λ (b : Bool). b || bit w (t % 64)) (power-bit (t % 64) (s % 64) ∙ same-place s t e)
+    ∙ ap (λ (x : ℕ). eqb t s || bit (getD ws x 0) (t % 64)) (sym e))
+    (λ (ne : t / 64 ≡ s / 64 → ⊥).
+    ap (λ (x : ℕ). bit x (t % 64)) (getD-set-other ws (s / 64) (t / 64) v 0 ne)
+    ∙ ap (λ (b : Bool). b || marks ws t) (sym (ne-eqb t s (λ same. ne (ap (λ (x : ℕ). x / 64) same)))))
+    (cases-eq (t / 64) (s / 64))
 
 -- Four words, each with the bits set that are below what is left of n.
 pub four-full : (a b c d n : ℕ) → ((j : ℕ) → j < 64 → bit a j ≡ ltb j n) → ((j : ℕ) → j < 64 → bit b j ≡ ltb j (n - 64))
@@ -61,6 +61,7 @@ four-full a b c d n ha hb hc hd s l = pick (s / 64) (s % 64) (omega arith) (omeg
     pick (suc (suc zero)) j h m = hc j m
     pick (suc (suc (suc zero))) j h m = hd j m
     pick (suc (suc (suc (suc q)))) j h m = absurd (omega arith)
+
     whole : ltb (s % 64) (n - 64 * (s / 64)) ≡ ltb s n
     whole = ⊎-elim
         (λ (h : s < n). lt-ltb (s % 64) (n - 64 * (s / 64)) (omega arith) ∙ sym (lt-ltb s n h))

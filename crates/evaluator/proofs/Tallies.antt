@@ -50,7 +50,7 @@ ones-tally (suc k) w h =
     let small : w / 2 < 2 ^ k = omega (arith, pow-suc 2 k) in
     let low : w % 2 ≡ cond (bit w 0) 1 0 = one-digit (w % 2) (mod-below w 2 (omega arith)) ∙ ap (λ (x : ℕ). cond (eqb (x % 2) 1) 1 0) (sym (div-one w)) in
     let high : ones (w / 2) ≡ tally (λ j. bit w (1 + j)) k =
-      ones-tally k (w / 2) small ∙ tally-same (bit (w / 2)) (λ j. bit w (1 + j)) k (λ j l. ap (λ (x : ℕ). eqb (x % 2) 1) (shr-shr w 1 j)) in
+    ones-tally k (w / 2) small ∙ tally-same (bit (w / 2)) (λ j. bit w (1 + j)) k (λ j l. ap (λ (x : ℕ). eqb (x % 2) 1) (shr-shr w 1 j)) in
     let all : tally (bit w) (1 + k) ≡ tally (λ j. bit w (1 + j)) k + cond (bit w 0) 1 0 = tally-add (bit w) 1 k ∙ ap (λ (x : ℕ). tally (λ j. bit w (1 + j)) k + x) (tally-one (bit w)) in
     let on : suc k ≡ 1 + k = omega arith in
     ones-step w ∙ ap₂ (λ (x y : ℕ). x + y) low high ∙ omega (arith, all, ap (tally (bit w)) on)
@@ -59,8 +59,8 @@ ones-tally (suc k) w h =
 word-tally : (ws : List ℕ) (q : ℕ) → getD ws q 0 < 2 ^ 64 → tally (λ j. marks ws (64 * q + j)) 64 ≡ ones (getD ws q 0)
 word-tally ws q h =
     tally-same (λ j. marks ws (64 * q + j)) (bit (getD ws q 0)) 64
-      (λ j l. let e : (64 * q + j) / 64 ≡ q = omega arith in let f : (64 * q + j) % 64 ≡ j = omega arith in
-        ap (λ (x : ℕ). bit (getD ws x 0) ((64 * q + j) % 64)) e ∙ ap (λ (x : ℕ). bit (getD ws q 0) x) f)
+    (λ j l. let e : (64 * q + j) / 64 ≡ q = omega arith in let f : (64 * q + j) % 64 ≡ j = omega arith in
+    ap (λ (x : ℕ). bit (getD ws x 0) ((64 * q + j) % 64)) e ∙ ap (λ (x : ℕ). bit (getD ws q 0) x) f)
     ∙ sym (ones-tally 64 (getD ws q 0) h)
 
 pub row-tally : (ws : List ℕ) → ((q : ℕ) → getD ws q 0 < 2 ^ 64) → ones (getD ws 0 0) + ones (getD ws 1 0) + ones (getD ws 2 0) + ones (getD ws 3 0) ≡ tally (marks ws) 256
@@ -82,14 +82,14 @@ tally-mark p q zero s l off now same = absurd (omega arith)
 tally-mark p q (suc n) s l off now same =
     ⊎-elim
     (λ (e : n ≡ s).
-        let rest : tally q n ≡ tally p n = tally-same q p n (λ j m. same j (omega arith) (λ f. omega arith)) in
-        let qn : _≡_ {A = ℕ} (cond (q n) 1 0) 1 = ap (λ (b : Bool). cond b 1 0) (ap q e ∙ now) in
-        let pn : _≡_ {A = ℕ} (cond (p n) 1 0) 0 = ap (λ (b : Bool). cond b 1 0) (ap p e ∙ off) in
-        omega arith)
+    let rest : tally q n ≡ tally p n = tally-same q p n (λ j m. same j (omega arith) (λ f. omega arith)) in
+    let qn : _≡_ {A = ℕ} (cond (q n) 1 0) 1 = ap (λ (b : Bool). cond b 1 0) (ap q e ∙ now) in
+    let pn : _≡_ {A = ℕ} (cond (p n) 1 0) 0 = ap (λ (b : Bool). cond b 1 0) (ap p e ∙ off) in
+    omega arith)
     (λ (ne : n ≡ s → ⊥).
-        let rest : tally q n ≡ tally p n + 1 = tally-mark p q n s (omega arith) off now (λ t m f. same t (omega arith) f) in
-        let here : _≡_ {A = ℕ} (cond (q n) 1 0) (cond (p n) 1 0) = ap (λ (b : Bool). cond b 1 0) (same n (omega arith) ne) in
-        omega arith)
+    let rest : tally q n ≡ tally p n + 1 = tally-mark p q n s (omega arith) off now (λ t m f. same t (omega arith) f) in
+    let here : _≡_ {A = ℕ} (cond (q n) 1 0) (cond (p n) 1 0) = ap (λ (b : Bool). cond b 1 0) (same n (omega arith) ne) in
+    omega arith)
     (cases-eq n s)
 
 pub tally-le : (p : ℕ → Bool) (n : ℕ) → tally p n ≤ n

@@ -27,7 +27,7 @@ module _ (k : Kripke) (law : Closed k) (f g : ℕ → Bool) where
   one-more true q sound s h hf on = λ p way.
       let m = second k s p way in
       until-ahead (Marked f) (Marked g) p (ap f (way .starts) ∙ hf)
-        (sound (p 1) (law .inside s (p 1) h m) (every-yes q (successors k s) on (p 1) m) (λ i. p (suc i)) (tail-path k s p way))
+      (sound (p 1) (law .inside s (p 1) h m) (every-yes q (successors k s) on (p 1) m) (λ i. p (suc i)) (tail-path k s p way))
   one-more false q sound s h hf on =
       let (u, m, hu) = some-yes q (successors k s) on in
       let (p, way, un) = sound u (law .inside s u h m) hu in
@@ -51,8 +51,8 @@ module _ (k : Kripke) (law : Closed k) (f g : ℕ → Bool) where
     abbrev choose : (s : ℕ) → s < size k → (u : ℕ) × Member u (successors k s) × ((every q (successors k s) ≡ true) ⊎ (q u ≡ false))
     choose s h =
         ⊎-elim (λ on. (first (successors k s), first-member (successors k s) (law .onward s h), inl on))
-          (λ off. let z = every-no q (successors k s) off in (z .0, z .1, inr (z .2)))
-          (cases-bool (every q (successors k s)))
+        (λ off. let z = every-no q (successors k s) off in (z .0, z .1, inr (z .2)))
+        (cases-bool (every q (successors k s)))
 
     run : (s : ℕ) → s < size k → ℕ → ℕ
     run s h zero = s
@@ -73,9 +73,9 @@ module _ (k : Kripke) (law : Closed k) (f g : ℕ → Bool) where
     each-out still zero s h out hg hf = both-ways (q s) out (above s h hg)
     each-out still (suc n) s h out hg hf =
         ⊎-elim
-          (λ on. both-ways (q s) out (still s h (hf 0 (omega arith)) on))
-          (λ out′. each-out still n (choose s h .0) (law .inside s (choose s h .0) h (choose s h .1)) out′ hg (λ i l. hf (suc i) (omega arith)))
-          (choose s h .2)
+        (λ on. both-ways (q s) out (still s h (hf 0 (omega arith)) on))
+        (λ out′. each-out still n (choose s h .0) (law .inside s (choose s h .0) h (choose s h .1)) out′ hg (λ i l. hf (suc i) (omega arith)))
+        (choose s h .2)
 
     pub outside : (e : Bool) → Still k e f q → (s : ℕ) → s < size k → q s ≡ false → Paths k (not e) s (λ p. U p → ⊥)
     outside true still s h out = (run s h, run-path s h, λ u. each-out still (u .0) s h out (u .1) (u .2))

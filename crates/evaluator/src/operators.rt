@@ -7,7 +7,11 @@ ghost use lib.Dec.{ltb};
 ghost use lib.ListN.{length};
 ghost use mathlib.Core.Bool.{_&&_};
 ghost use mathlib.Core.Path.{_≡_};
-use crate::row::{both, differ, either, mark, marked};
+use crate::row::both;
+use crate::row::differ;
+use crate::row::either;
+use crate::row::mark;
+use crate::row::marked;
 use kripke::label::Label;
 use kripke::model::Model;
 use kripke::node::Node;
@@ -88,7 +92,14 @@ fn always<M: Model>(model: &M, each: bool, full: [u64; 4], f: [u64; 4], row: &mu
 }
 
 // The row of a node, from its operands' rows; full has every state marked.
-pub fn apply<M: Model>(model: &M, node: Node, full: [u64; 4], a: [u64; 4], b: [u64; 4], row: &mut [u64])
+pub fn apply<M: Model>(
+    model: &M,
+    node: Node,
+    full: [u64; 4],
+    a: [u64; 4],
+    b: [u64; 4],
+    row: &mut [u64],
+)
     requires { ⌜ length (now row) ≡ 4 ⌝ ∗ ⌜ Whole (meaning (now model)) (marks full) ⌝ ∗ ⌜ node .code < 13 ⌝ }
     ensures { λ _. ⌜ Applies (meaning (now (model .entry))) (operator node) (node .a) (node .b) (marks a) (marks b) (marks (now (row .exit))) ⌝ }
 {

@@ -33,7 +33,12 @@ fn low(m: usize) -> u64
 pub fn full(n: usize) -> [u64; 4]
     ensures { λ r. ⌜ ((s : ℕ) → s < 256 → marks r s ≡ ltb s n) ⌝ }
 {
-    [low(n), low(n.saturating_sub(64)), low(n.saturating_sub(128)), low(n.saturating_sub(192))]
+    [
+        low(n),
+        low(n.saturating_sub(64)),
+        low(n.saturating_sub(128)),
+        low(n.saturating_sub(192)),
+    ]
 }
 
 // Marks what a and b both mark.
@@ -71,7 +76,12 @@ pub fn read(words: &[u64], i: usize) -> [u64; 4]
     requires { ⌜ 4 * i + 4 ≤ length (now words) ⌝ }
     ensures { λ r. ⌜ ((s : ℕ) → s < 256 → marks r s ≡ at (now (words .entry)) i s) ⌝ }
 {
-    [words[4 * i], words[4 * i + 1], words[4 * i + 2], words[4 * i + 3]]
+    [
+        words[4 * i],
+        words[4 * i + 1],
+        words[4 * i + 2],
+        words[4 * i + 3],
+    ]
 }
 
 // How many states are marked.

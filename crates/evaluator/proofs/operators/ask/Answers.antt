@@ -17,11 +17,11 @@ loop-s-again g c =
     let h : ℕ → Bool = λ t. answer k t (c .args .question) in
     let is : h (c .loop-s .s) ≡ c .answer .result = ap (λ (bs : List Bool). getD bs (c .args .question) false) (sym (c .label .ensures)) ∙ sym (c .answer .ensures) in
     elim (c .if-answer .came) [
-      then-answer w ↦
-        subst (λ (r : List ℕ). (t : ℕ) → t < 256 → marks r t ≡ (ltb t (c .loop-s .s + 1) && h t)) (sym (w .row-is))
+      | then-answer w ↦
+          subst (λ (r : List ℕ). (t : ℕ) → t < 256 → marks r t ≡ (ltb t (c .loop-s .s + 1) && h t)) (sym (w .row-is))
           (λ t lt. took h (c .loop-s .s) t _ _ (is ∙ w .if-answer .taken) (c .loop-s .inv t lt) (w .mark .ensures t lt))
-    | else-answer w ↦
-        subst (λ (r : List ℕ). (t : ℕ) → t < 256 → marks r t ≡ (ltb t (c .loop-s .s + 1) && h t)) (sym (w .row-is))
+      | else-answer w ↦
+          subst (λ (r : List ℕ). (t : ℕ) → t < 256 → marks r t ≡ (ltb t (c .loop-s .s + 1) && h t)) (sym (w .row-is))
           (λ t lt. passed h (c .loop-s .s) t _ (is ∙ w .if-answer .left) (c .loop-s .inv t lt))
     ]
 

@@ -15,11 +15,11 @@ loop-s-again g c =
     let k : Kripke = g .M·Model .meaning (c .args .model .now) in
     let h : ℕ → Bool = λ t. steps (c .args .each) (marks (c .args .f)) (successors k t) in
     elim (c .if-onward .came) [
-      then-onward w ↦
-        subst (λ (r : List ℕ). (t : ℕ) → t < 256 → marks r t ≡ (ltb t (c .loop-s .s + 1) && h t)) (sym (w .row-is))
+      | then-onward w ↦
+          subst (λ (r : List ℕ). (t : ℕ) → t < 256 → marks r t ≡ (ltb t (c .loop-s .s + 1) && h t)) (sym (w .row-is))
           (λ t lt. took h (c .loop-s .s) t _ _ (sym (c .onward .ensures) ∙ w .if-onward .taken) (c .loop-s .inv t lt) (w .mark .ensures t lt))
-    | else-onward w ↦
-        subst (λ (r : List ℕ). (t : ℕ) → t < 256 → marks r t ≡ (ltb t (c .loop-s .s + 1) && h t)) (sym (w .row-is))
+      | else-onward w ↦
+          subst (λ (r : List ℕ). (t : ℕ) → t < 256 → marks r t ≡ (ltb t (c .loop-s .s + 1) && h t)) (sym (w .row-is))
           (λ t lt. passed h (c .loop-s .s) t _ (sym (c .onward .ensures) ∙ w .if-onward .left) (c .loop-s .inv t lt))
     ]
 
@@ -28,4 +28,4 @@ returns g c =
     let k : Kripke = g .M·Model .meaning (c .args .model .now) in
     let end : c .loop-s .s ≡ size k = omega arith in
     next-divides _ k (g .M·Model·met .lawful (c .args .model .now)) (c .args .each) (marks (c .args .f)) (marks (c .loop-s .row))
-      (λ s l. c .loop-s .inv s l ∙ ap (λ (n : ℕ). ltb s n && steps (c .args .each) (marks (c .args .f)) (successors k s)) end)
+    (λ s l. c .loop-s .inv s l ∙ ap (λ (n : ℕ). ltb s n && steps (c .args .each) (marks (c .args .f)) (successors k s)) end)

@@ -22,14 +22,14 @@ loop-i-holds g c = refl
 pub loop-i-again : need.loop-i-again
 loop-i-again g c =
     stepped (c .args .each) (marks (c .args .row .now)) (successors (g .M·Model .meaning (c .args .model .now)) (c .args .s)) (c .loop-i .i) _ (c .loop-i .inv)
-      (c .successor .result) (c .marked .result) (omega (arith, c .degree-i-end .ensures, c .loop-i-test .taken)) (c .successor .ensures) (c .marked .ensures) (c .if-marked-each .left)
+    (c .successor .result) (c .marked .result) (omega (arith, c .degree-i-end .ensures, c .loop-i-test .taken)) (c .successor .ensures) (c .marked .ensures) (c .if-marked-each .left)
 
 pub returns-then-marked-each : need.returns-then-marked-each
 returns-then-marked-each g c =
     stopped (c .args .each) (marks (c .args .row .now)) (successors (g .M·Model .meaning (c .args .model .now)) (c .args .s)) (c .loop-i .i) _ (c .loop-i .inv)
-      (c .successor .result) (c .marked .result) (omega (arith, c .degree-i-end .ensures, c .loop-i-test .taken)) (c .successor .ensures) (c .marked .ensures) (c .if-marked-each .taken)
+    (c .successor .result) (c .marked .result) (omega (arith, c .degree-i-end .ensures, c .loop-i-test .taken)) (c .successor .ensures) (c .marked .ensures) (c .if-marked-each .taken)
 
 pub returns : need.returns
 returns g c =
     ended (c .args .each) (marks (c .args .row .now)) (successors (g .M·Model .meaning (c .args .model .now)) (c .args .s)) (c .loop-i .i) _ (c .loop-i .inv)
-      (omega (arith, c .degree-i-end .ensures, c .loop-i-test .left))
+    (omega (arith, c .degree-i-end .ensures, c .loop-i-test .left))

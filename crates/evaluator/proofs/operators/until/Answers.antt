@@ -26,4 +26,4 @@ returns g c =
     let k : Kripke = g .M·Model .meaning (c .args .model .now) in
     let law = g .M·Model·met .lawful (c .args .model .now) in
     subst (λ (r : List ℕ). Trim k (marks r) → Divides k (c .args .each) (Until (Marked (marks (c .args .f))) (Marked (marks r))) (marks (c .sweep .last .row))) (c .copy-from-slice .ensures .after)
-      (reaped _ k law _ _ _ _ (grew _ _ _ _ _ _ _ (c .loop-f .inv) (c .sweep .ensures)) (c .sweep .ensures .still (c .loop-f-test .left)))
+    (reaped _ k law _ _ _ _ (grew _ _ _ _ _ _ _ (c .loop-f .inv) (c .sweep .ensures)) (c .sweep .ensures .still (c .loop-f-test .left)))
