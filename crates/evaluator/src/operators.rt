@@ -92,7 +92,7 @@ fn always<M: Model>(model: &M, each: bool, full: [u64; 4], f: [u64; 4], row: &mu
 }
 
 // The row of a node, from its operands' rows; full has every state marked.
-pub fn apply<M: Model>(
+pub(crate) fn apply<M: Model>(
     model: &M,
     node: Node,
     full: [u64; 4],

@@ -7,7 +7,7 @@ ghost use mathlib.Core.Bool.{Bool·beq, _&&_, _||_, not};
 ghost use mathlib.Core.Path.{_≡_};
 
 // Whether state s is marked.
-pub fn marked(row: &[u64], s: usize) -> bool
+pub(crate) fn marked(row: &[u64], s: usize) -> bool
     requires { ⌜ length (now row) ≡ 4 ⌝ ∗ ⌜ s < 256 ⌝ }
     ensures { λ r. ⌜ r ≡ marks (now (row .entry)) s ⌝ }
 {
@@ -15,7 +15,7 @@ pub fn marked(row: &[u64], s: usize) -> bool
 }
 
 // Marks state s.
-pub fn mark(row: &mut [u64], s: usize)
+pub(crate) fn mark(row: &mut [u64], s: usize)
     requires { ⌜ length (now row) ≡ 4 ⌝ ∗ ⌜ s < 256 ⌝ }
     ensures { λ _. ⌜ ((t : ℕ) → t < 256 → marks (now (row .exit)) t ≡ (eqb t s || marks (now (row .entry)) t)) ⌝ }
 {
@@ -30,7 +30,7 @@ fn low(m: usize) -> u64
 }
 
 // The row in which the first n states are marked.
-pub fn full(n: usize) -> [u64; 4]
+pub(crate) fn full(n: usize) -> [u64; 4]
     ensures { λ r. ⌜ ((s : ℕ) → s < 256 → marks r s ≡ ltb s n) ⌝ }
 {
     [
@@ -42,7 +42,7 @@ pub fn full(n: usize) -> [u64; 4]
 }
 
 // Marks what a and b both mark.
-pub fn both(a: [u64; 4], b: [u64; 4], row: &mut [u64])
+pub(crate) fn both(a: [u64; 4], b: [u64; 4], row: &mut [u64])
     requires { ⌜ length (now row) ≡ 4 ⌝ }
     ensures { λ _. ⌜ ((s : ℕ) → s < 256 → marks (now (row .exit)) s ≡ (marks a s && marks b s)) ⌝ }
 {
@@ -52,7 +52,7 @@ pub fn both(a: [u64; 4], b: [u64; 4], row: &mut [u64])
 }
 
 // Marks what a or b marks.
-pub fn either(a: [u64; 4], b: [u64; 4], row: &mut [u64])
+pub(crate) fn either(a: [u64; 4], b: [u64; 4], row: &mut [u64])
     requires { ⌜ length (now row) ≡ 4 ⌝ }
     ensures { λ _. ⌜ ((s : ℕ) → s < 256 → marks (now (row .exit)) s ≡ (marks a s || marks b s)) ⌝ }
 {
@@ -62,7 +62,7 @@ pub fn either(a: [u64; 4], b: [u64; 4], row: &mut [u64])
 }
 
 // Marks what one of a and b marks and the other does not.
-pub fn differ(a: [u64; 4], b: [u64; 4], row: &mut [u64])
+pub(crate) fn differ(a: [u64; 4], b: [u64; 4], row: &mut [u64])
     requires { ⌜ length (now row) ≡ 4 ⌝ }
     ensures { λ _. ⌜ ((s : ℕ) → s < 256 → marks (now (row .exit)) s ≡ not (Bool·beq (marks a s) (marks b s))) ⌝ }
 {
@@ -72,7 +72,7 @@ pub fn differ(a: [u64; 4], b: [u64; 4], row: &mut [u64])
 }
 
 // Row i of a table.
-pub fn read(words: &[u64], i: usize) -> [u64; 4]
+pub(crate) fn read(words: &[u64], i: usize) -> [u64; 4]
     requires { ⌜ 4 * i + 4 ≤ length (now words) ⌝ }
     ensures { λ r. ⌜ ((s : ℕ) → s < 256 → marks r s ≡ at (now (words .entry)) i s) ⌝ }
 {
@@ -85,7 +85,7 @@ pub fn read(words: &[u64], i: usize) -> [u64; 4]
 }
 
 // How many states are marked.
-pub fn count(row: &[u64]) -> u32
+pub(crate) fn count(row: &[u64]) -> u32
     requires { ⌜ length (now row) ≡ 4 ⌝ }
     ensures { λ r. ⌜ r ≡ tally (marks (now (row .entry))) 256 ⌝ }
 {

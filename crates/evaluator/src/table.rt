@@ -43,7 +43,7 @@ fn refuse(cause: Cause, place: usize) -> Result<(), Refusal>
 }
 
 // Refuses a table that cannot be evaluated into so many words.
-pub fn check(questions: usize, nodes: &[Node], words: usize) -> Result<(), Refusal>
+pub(crate) fn check(questions: usize, nodes: &[Node], words: usize) -> Result<(), Refusal>
     ensures { λ r. ⌜ Judged (Breach questions (now (nodes .entry)) words) layer.Evaluation (λ _. Ready questions (now (nodes .entry)) words) (Unit {0}) r ⌝ }
 {
     if nodes.is_empty() || nodes.len() > 2045 {
@@ -69,7 +69,7 @@ fn operand(words: &[u64], i: usize, x: usize) -> [u64; 4]
 }
 
 // Writes the row of each node, in order.
-pub fn fill<M: Model>(model: &M, nodes: &[Node], words: &mut [u64])
+pub(crate) fn fill<M: Model>(model: &M, nodes: &[Node], words: &mut [u64])
     requires { ⌜ Ready (Label·Label .count) (now nodes) (length (now words)) ⌝ }
     ensures { λ _. ⌜ Filled (meaning (now (model .entry))) (now (nodes .entry)) (length (now (nodes .entry))) (now (words .entry)) (now (words .exit)) ⌝ }
 {
