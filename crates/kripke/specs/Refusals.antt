@@ -1,7 +1,10 @@
 -- Refusals: their numbers, and what it means that a call is refused in the stated cases and in no other.
 use mathlib.Core.Path.{_≡_}
+use mathlib.Core.List.{List, _++_}
 use mathlib.Core.Logic.{_⊎_}
 use Prim.Native.Nat.{ℕ, _<_}
+use lib.Chars.{codes}
+use Rattle.std.specs.Written.{decimal}
 use Rattle.std.specs.declared.result.Result.{Result}
 use Rattle.std.specs.declared.result.Result.the-variants.{Ok, Err}
 use Rattle.kripke.specs.declared.refusal.Refusal.{Refusal}
@@ -45,6 +48,10 @@ layerOf layer.Text = 4
 layerOf layer.Evaluation = 5
 layerOf layer.Comparison = 6
 layerOf layer.Report = 7
+
+-- What is told of a refusal: the word, the number, the layer and the place.
+abbrev pub toldAs : Refusal → List ℕ
+toldAs e = codes "refused " ++ (decimal (numberOf (e .cause)) ++ (codes " " ++ (decimal (layerOf (e .layer)) ++ (codes " " ++ decimal (e .place)))))
 
 -- Which rules an input breaks: a cause and a place for each breach.
 abbrev pub Rules : Type 1

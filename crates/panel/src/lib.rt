@@ -1,5 +1,6 @@
-// The label kinds of panels, and the model that is loaded from a stored image.
+// The model that is loaded from a stored image.
 
-pub mod coded;
-pub mod reading;
-pub mod signal;
+mod image;
+pub mod slot;
+pub mod stored;
+pub mod theorems;

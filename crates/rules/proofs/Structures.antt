@@ -14,8 +14,8 @@ use Rattle.std.proofs.shelf.Counted.{length-map-counting, getD-map-counting}
 use Rattle.std.proofs.shelf.Lists.{getD-default, getD-past, getD-take, length-take-le, same-lists}
 use Rattle.std.proofs.shelf.Tests.{cases-lt, lt-ltb, le-ltb}
 use Rattle.kripke.specs.Structure.{Kripke, State, Lawful, Member, blank, size, state, successors}
-use Rattle.panel.specs.Labels.{bits}
-use Rattle.panel.proofs.Words.{length-bits}
+use Rattle.labels.specs.Kinds.{bits}
+use Rattle.labels.proofs.Words.{length-bits}
 use Rattle.rules.specs.Rules.{moves, orItself, ruled, structure}
 use Rattle.rules.specs.Limits as limits
 use Rattle.rules.specs.declared.rule.Rule.{Rule}

@@ -6,7 +6,7 @@ use lib.Bits.{bitAnd, bitOr}
 use lib.Dec.{eqb}
 use Rattle.std.specs.Iters.{counting}
 use Rattle.kripke.specs.Structure.{Kripke, State}
-use Rattle.panel.specs.Labels.{bits}
+use Rattle.labels.specs.Kinds.{bits}
 use Rattle.rules.specs.declared.rule.Rule.{Rule}
 
 -- A rule applies in s when the bits of s under care equal need.

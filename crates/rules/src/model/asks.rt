@@ -6,8 +6,8 @@ ghost use mathlib.Core.Bool.{cond};
 ghost use mathlib.Core.Path.{_≡_};
 use super::RuleModel;
 use kripke::model::Model;
-use panel::signal::SignalWord;
-use panel::signal::SignalWordLabel;
+use labels::signal::SignalWord;
+use labels::signal::SignalWordLabel;
 
 impl RuleModel {
     // The number of state s, and past the last that of state 0.

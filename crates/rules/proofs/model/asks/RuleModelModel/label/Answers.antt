@@ -1,6 +1,6 @@
 use mathlib.Core.Path.{sym, ap, _∙_}
 use Rattle.kripke.specs.Structure.{State}
-use Rattle.panel.specs.Labels.{bits}
+use Rattle.labels.specs.Kinds.{bits}
 use Rattle.rules.specs.Held.{held}
 use Rattle.rules.proofs.Structures.{state-is}
 use Rattle.rules.proofs.model.asks.RuleModelModel.label.Needs as need

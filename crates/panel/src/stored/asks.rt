@@ -1,0 +1,46 @@
+ghost use Rattle.kripke.specs.Structure.{orFirst};
+ghost use mathlib.Core.Path.{_≡_};
+ghost use Rattle.panel.specs.Held.{meaningOf};
+ghost use Rattle.std.specs.Of.Vec.{vec-items};
+use super::Row;
+use super::StoredModel;
+use kripke::label::Label;
+use kripke::model::Model;
+
+pub impl<L: Label> Model for StoredModel<L> as StoredModelModel {
+    type Label = L;
+
+    ghost meaning = { λ m. meaningOf (L·Label .answers) m };
+
+    fn states(&self) -> usize {
+        self.rows.len()
+    }
+
+    fn initial(&self) -> usize {
+        self.initial as usize
+    }
+
+    fn label(&self, s: usize) -> L {
+        self.row(s).label
+    }
+
+    fn degree(&self, s: usize) -> usize {
+        self.row(s).next.len()
+    }
+
+    fn successor(&self, s: usize, i: usize) -> usize {
+        let next = &self.row(s).next;
+        let i = if i < next.len() { i } else { 0 };
+        next[i] as usize
+    }
+}
+
+impl<L> StoredModel<L> {
+    // The row of state s, and past the last that of state 0.
+    fn row(&self, s: usize) -> &Row<L>
+        ensures { λ r. ⌜ now r ≡ orFirst (vec-items (now (self .entry) .rows)) s (now r) ⌝ }
+    {
+        let s = if s < self.rows.len() { s } else { 0 };
+        &self.rows[s]
+    }
+}
