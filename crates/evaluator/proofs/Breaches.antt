@@ -12,7 +12,7 @@ use Rattle.kripke.specs.declared.refusal.Cause.{Cause}
 use Rattle.kripke.specs.declared.refusal.Cause.the-variants.{NodeCount, BadNode, FewWords}
 use Rattle.kripke.specs.declared.refusal.Layer.the-variants as layer
 use Rattle.evaluator.specs.Breaches.{Breach, count, node, words}
-use Rattle.evaluator.specs.Tests.{Ready}
+use Rattle.evaluator.specs.Marks.{Ready}
 
 module _ (q : ℕ) (ns : List Node) (w : ℕ) where
   pub first-count : ((1 ≤ length ns) × (length ns ≤ 2045) → ⊥) → First (Breach q ns w) layer.Evaluation (record { cause = NodeCount; layer = layer.Evaluation; place = 0 })

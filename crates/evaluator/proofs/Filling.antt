@@ -16,7 +16,7 @@ use Rattle.kripke.specs.Nodes.{Operator, constant, asking, unary, binary, opera
 use Rattle.kripke.specs.declared.node.Node.{Node}
 use Rattle.kripke.proofs.Tables.{formula-at}
 use Rattle.evaluator.specs.Rows.{bit, at, Tells}
-use Rattle.evaluator.specs.Tests.{Applies, Fed, Filled, marks}
+use Rattle.evaluator.specs.Marks.{Applies, Fed, Filled, marks}
 
 -- The words after a write to the part of w words from a on.
 mid-at : (a w : ℕ) (xs ys : List ℕ) (j : ℕ) → a ≤ length xs → j < length ys → getD (putMid a w xs ys) (a + j) 0 ≡ getD ys j 0

@@ -12,8 +12,8 @@ use Rattle.kripke.specs.Structure.{Kripke, Lawful, answer, size}
 use Rattle.kripke.specs.Ctl.{Path, Next, Until, Always, Anything, Holds, Formula, truth, question, and, or, EX, AX, EF, AF, EG, AG, EU, AU}
 use Rattle.kripke.specs.Nodes.{Operator, operators, constant}
 use Rattle.evaluator.specs.Rows.{Tells}
-use Rattle.evaluator.specs.Tests.{Marked, Paths, Trim, Whole, Divides, Applies}
-use Rattle.evaluator.proofs.Ways.{path-inside}
+use Rattle.evaluator.specs.Marks.{Marked, Paths, Trim, Whole, Divides, Applies}
+use Rattle.kripke.proofs.Walks.{path-inside}
 use Rattle.evaluator.proofs.Turns.{Differs, paths-map, paths-clash, full-on, turned-on, turned-off, turned-trim}
 
 -- What the marks divide by, said in other words.

@@ -9,7 +9,7 @@ use lib.ListN.{length, getD, drop}
 use Rattle.std.proofs.shelf.Lists.{at-drop-more, at-drop-all}
 use Rattle.std.proofs.shelf.Tests.{both-ways, and-parts, and-cases, or-cases, or-parts}
 use Rattle.kripke.specs.Structure.{Member, orFirst}
-use Rattle.evaluator.specs.Tests.{every, some, steps}
+use Rattle.evaluator.specs.Marks.{every, some, steps}
 
 pub member-at : (xs : List ℕ) (i : ℕ) → i < length xs → Member (orFirst xs i 0) xs
 member-at xs i h = found xs i (getD xs 0 0) h

@@ -9,9 +9,9 @@ use Rattle.std.proofs.shelf.Tests.{both-ways, cases-eq, lt-ltb, le-ltb, and-lef
 use Rattle.std.proofs.shelf.Ways.{tells}
 use Rattle.kripke.specs.Structure.{Kripke, Closed, Lawful, size, successors}
 use Rattle.kripke.specs.Ctl.{Next}
-use Rattle.evaluator.specs.Tests.{Marked, Paths, Divides, steps}
+use Rattle.evaluator.specs.Marks.{Marked, Paths, Divides, steps}
 use Rattle.evaluator.proofs.Members.{every-yes, every-no, some-yes, some-no}
-use Rattle.evaluator.proofs.Ways.{through, second}
+use Rattle.kripke.proofs.Walks.{through, second}
 
 -- One more state is done, and it is marked or left.
 pub took : (h : ℕ → Bool) (s t : ℕ) (a b : Bool) → h s ≡ true → a ≡ (ltb t s && h t) → b ≡ (eqb t s || a) → b ≡ (ltb t (s + 1) && h t)

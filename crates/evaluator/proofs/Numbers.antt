@@ -1,71 +1,57 @@
 -- The number of states at which a formula holds, and the answers of an evaluation.
 use mathlib.Core.Path.{_≡_, refl, sym, ap, _∙_, subst}
 use mathlib.Core.Bool.{Bool, true, false, cond}
-use mathlib.Core.List.{List, [], _∷_}
-use mathlib.Core.Logic.{_⊎_, inl, inr, ⊎-elim, _↔_}
+use mathlib.Core.List.{List}
+use mathlib.Core.Logic.{⊎-elim, _↔_}
 use Prim.Native.Nat.{ℕ, zero, suc, _+_, _-_, _<_, _≤_}
 use native.Mathlib.Omega.{arith}
 use lib.ListN.{length}
-use Rattle.std.proofs.shelf.Tests.{cases-bool, cases-lt, both-ways}
-use Rattle.kripke.specs.Structure.{Kripke, Lawful, Member, size}
+use Rattle.std.proofs.shelf.Tests.{cases-bool, both-ways}
+use Rattle.kripke.specs.Structure.{Kripke, Lawful, size}
 use Rattle.kripke.specs.Ctl.{Formula, Holds}
+use Rattle.kripke.specs.Classes.{Count, none, more, pass}
 use Rattle.kripke.specs.Nodes.{root}
 use Rattle.kripke.specs.declared.node.Node.{Node}
 use Rattle.evaluator.specs.Rows.{at, Tells}
-use Rattle.evaluator.specs.Evaluated.{Distinct, Number, Evaluated}
+use Rattle.evaluator.specs.Evaluated.{Evaluated}
 use Rattle.evaluator.specs.declared.Evaluation.{Evaluation}
-use Rattle.evaluator.specs.Tests.{Filled, tally}
+use Rattle.evaluator.specs.Marks.{Filled, tally}
+use Rattle.evaluator.proofs.Tallies.{tally-add}
 use Rattle.evaluator.proofs.Filling.{tells-same}
 
--- A list of the numbers below n that pass a test.
-pub record Lists (q : ℕ → Bool) (n : ℕ) (xs : List ℕ) : Type 0 where
-  pub distinct : Distinct xs
-  pub long : length xs ≡ tally q n
-  pub passing : (x : ℕ) → Member x xs → (x < n) × (q x ≡ true)
-  pub all : (x : ℕ) → x < n → q x ≡ true → Member x xs
+weighs-one : (b : Bool) → b ≡ true → _≡_ {A = ℕ} (cond b 1 0) 1
+weighs-one b on = ap (λ (x : Bool). cond x 1 0) on
 
-lists : (q : ℕ → Bool) (n : ℕ) → (xs : List ℕ) × Lists q n xs
+weighs-none : (b : Bool) → b ≡ false → _≡_ {A = ℕ} (cond b 1 0) 0
+weighs-none b off = ap (λ (x : Bool). cond x 1 0) off
+
+counted : (P : ℕ → Type 0) (q : ℕ → Bool) (n : ℕ) → ((s : ℕ) → s < n → (q s ≡ true) ↔ P s) → Count P n (tally q n)
 unfolding tally
-lists q zero = ([], record { distinct = tt; long = refl; passing = λ x m. absurd m; all = λ x l. absurd (omega arith) })
-lists q (suc n) =
-    let (xs, t) = lists q n in
+counted P q zero is = none
+counted P q (suc n) is =
+    let rest : Count P n (tally q n) = counted P q n (λ s h. is s (omega arith)) in
     ⊎-elim
-    (λ (on : q n ≡ true). (
-      n ∷ xs,
-      record {
-        distinct = (λ m. omega (arith, t .passing n m .0), t .distinct);
-        long = (let one : _≡_ {A = ℕ} (cond (q n) 1 0) 1 = ap (λ (b : Bool). cond b 1 0) on in omega (arith, t .long));
-        passing = λ x m. ⊎-elim (λ e. (omega arith, ap q e ∙ on)) (λ l. let z = t .passing x l in (omega (arith, z .0), z .1)) m;
-        all = λ x l p. ⊎-elim (λ (h : x < n). inr (t .all x h p)) (λ (h : n ≤ x). inl (omega arith)) (cases-lt x n);
-      },
-    ))
-    (λ (off : q n ≡ false). (
-      xs,
-      record {
-        distinct = t .distinct;
-        long = (let none : _≡_ {A = ℕ} (cond (q n) 1 0) 0 = ap (λ (b : Bool). cond b 1 0) off in omega (arith, t .long));
-        passing = λ x m. let z = t .passing x m in (omega (arith, z .0), z .1);
-        all = λ x l p. ⊎-elim (λ (h : x < n). t .all x h p)
-            (λ (h : n ≤ x). let e : x ≡ n = omega arith in absurd (both-ways (q n) off (ap q (sym e) ∙ p))) (cases-lt x n);
-      },
-    ))
-    (cases-bool (q n))
+      (λ (on : q n ≡ true).
+        let one : suc (tally q n) ≡ cond (q n) 1 0 + tally q n = omega (arith, weighs-one (q n) on) in
+        subst (Count P (suc n)) one (more n (tally q n) rest (is n (omega arith) .0 on)))
+      (λ (off : q n ≡ false).
+        let same : tally q n ≡ cond (q n) 1 0 + tally q n = omega (arith, weighs-none (q n) off) in
+        subst (Count P (suc n)) same (pass n (tally q n) rest (λ x. both-ways (q n) off (is n (omega arith) .1 x))))
+      (cases-bool (q n))
 
-pub numbered : (n : ℕ) (k : Kripke) → Lawful n k → (f : Formula) (q : ℕ → Bool) → Tells k f q → Number k f (tally q 256)
+tally-off : (q : ℕ → Bool) (n : ℕ) → ((s : ℕ) → s < n → q s ≡ false) → tally q n ≡ 0
+unfolding tally
+tally-off q zero h = refl
+tally-off q (suc n) h = omega (arith, weighs-none (q n) (h n (omega arith)), tally-off q n (λ s l. h s (omega arith)))
+
+numbered : (n : ℕ) (k : Kripke) → Lawful n k → (f : Formula) (q : ℕ → Bool) → Tells k f q → Count (Holds k f) (size k) (tally q 256)
 numbered n k law f q t =
-    let (xs, z) = lists q 256 in (
-      xs,
-      z .distinct,
-      z .long,
-      λ s. (
-        λ m. let (l, on) = z .passing s m in inside s l on (cases-lt s (size k)),
-        λ m. z .all s (omega (arith, m .0, law .few)) (t .here s (m .0) .1 (m .1)),
-      ),
-    )
-  where
-    inside : (s : ℕ) → s < 256 → q s ≡ true → (s < size k) ⊎ (size k ≤ s) → (s < size k) × Holds k f s
-    inside s l on (inl h) = (h, t .here s h .0 on)
-    inside s l on (inr h) = absurd (both-ways (q s) (t .beyond s h l) on)
+    let few = law .few in
+    let all : size k + (256 - size k) ≡ 256 = omega arith in
+    let off : tally (λ s. q (size k + s)) (256 - size k) ≡ 0 =
+      tally-off (λ s. q (size k + s)) (256 - size k) (λ s l. t .beyond (size k + s) (omega arith) (omega arith)) in
+    let whole : tally q (size k) ≡ tally q 256 = omega (arith, tally-add q (size k) (256 - size k), ap (tally q) all) in
+    subst (Count (Holds k f) (size k)) whole (counted (Holds k f) q (size k) (t .here))
 
 -- The answers, read off the root's row.
 pub evaluated : (n : ℕ) (k : Kripke) → Lawful n k → (ns : List Node) (us ws : List ℕ) (row : ℕ → Bool) (i : ℕ) (e : Evaluation) → 1 ≤ length ns → Filled k ns (length ns) us ws
@@ -74,7 +60,7 @@ evaluated n k law ns us ws row i e some made read start holds count = record {
   rows = made .rows;
   past = made .past;
   initially = (λ on. told .here (k .initial) (law .begins) .0 (sym here ∙ on), λ x. here ∙ told .here (k .initial) (law .begins) .1 x);
-  number = subst (λ (m : ℕ). Number k (root ns) m) (sym count) (numbered n k law (root ns) row told);
+  number = subst (Count (Holds k (root ns)) (size k)) (sym count) (numbered n k law (root ns) row told);
 }
   where
     told : Tells k (root ns) row

@@ -13,7 +13,7 @@ use lib.Seq.{getD-set-same, getD-set-other}
 use Rattle.std.proofs.shelf.Bits.{one-shl}
 use Rattle.std.proofs.shelf.Tests.{eq-eqb, ne-eqb, cases-eq, cases-lt, lt-ltb, le-ltb}
 use Rattle.evaluator.specs.Rows.{bit}
-use Rattle.evaluator.specs.Tests.{marks}
+use Rattle.evaluator.specs.Marks.{marks}
 use Rattle.evaluator.proofs.Bits.{or-bit, power-bit}
 
 pub low-digit : (x : ℕ) → bitAnd x 1 ≡ x % 2

@@ -8,7 +8,7 @@ use lib.Dec.{eqb}
 use Rattle.std.proofs.shelf.Tests.{both-ways, cases-eq, eq-eqb, ne-eqb, or-left, or-right}
 use Rattle.kripke.specs.Structure.{Kripke, Lawful, size, successors}
 use Rattle.kripke.specs.Ctl.{Until}
-use Rattle.evaluator.specs.Tests.{Marked, Paths, Trim, Divides, Sound, Still, Sweeps, tally, steps}
+use Rattle.evaluator.specs.Marks.{Marked, Paths, Trim, Divides, Sound, Still, Sweeps, tally, steps}
 use Rattle.evaluator.proofs.Tallies.{tally-mark}
 use Rattle.evaluator.proofs.Untils.{at-once, one-more, outside}
 

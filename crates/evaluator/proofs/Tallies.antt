@@ -12,7 +12,7 @@ use lib.Dec.{eqb}
 use lib.ListN.{length, getD}
 use Rattle.std.proofs.shelf.Bits.{shr-shr, mod-below}
 use Rattle.evaluator.specs.Rows.{bit}
-use Rattle.evaluator.specs.Tests.{marks, tally}
+use Rattle.evaluator.specs.Marks.{marks, tally}
 
 pub tally-same : (p q : ℕ → Bool) (n : ℕ) → ((j : ℕ) → j < n → p j ≡ q j) → tally p n ≡ tally q n
 unfolding tally

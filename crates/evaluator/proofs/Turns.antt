@@ -8,8 +8,8 @@ use lib.Dec.{ltb}
 use Rattle.std.proofs.shelf.Tests.{both-ways, cases-bool, lt-ltb, le-ltb}
 use Rattle.kripke.specs.Structure.{Kripke, Lawful, size}
 use Rattle.kripke.specs.Ctl.{Path, Until, Always}
-use Rattle.evaluator.specs.Tests.{Marked, Paths, Trim, Whole, Divides}
-use Rattle.evaluator.proofs.Ways.{path-inside}
+use Rattle.evaluator.specs.Marks.{Marked, Paths, Trim, Whole, Divides}
+use Rattle.kripke.proofs.Walks.{path-inside}
 
 pub paths-map : (k : Kripke) (e : Bool) (s : ℕ) (Φ Ψ : (ℕ → ℕ) → Type 0) → ((p : ℕ → ℕ) → Path k s p → Φ p → Ψ p) → Paths k e s Φ → Paths k e s Ψ
 paths-map k true s Φ Ψ f h = λ p way. f p way (h p way)

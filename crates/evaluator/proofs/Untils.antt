@@ -7,9 +7,16 @@ use native.Mathlib.Omega.{arith}
 use Rattle.std.proofs.shelf.Tests.{both-ways, cases-bool}
 use Rattle.kripke.specs.Structure.{Kripke, Closed, Member, size, successors}
 use Rattle.kripke.specs.Ctl.{Path, Until}
-use Rattle.evaluator.specs.Tests.{Marked, Paths, Sound, Still, every, some, steps}
+use Rattle.evaluator.specs.Marks.{Marked, Paths, Sound, Still, every, some, steps}
 use Rattle.evaluator.proofs.Members.{every-yes, every-no, some-yes, some-no}
-use Rattle.evaluator.proofs.Ways.{through, first, first-member, tail-path, second, ahead, ahead-path, until-ahead}
+use Rattle.kripke.proofs.Walks.{first, first-member, tail-path, second, ahead, ahead-path, from-here}
+
+until-ahead : (P Q : ℕ → Type 0) (p : ℕ → ℕ) → P (p 0) → Until P Q (λ i. p (suc i)) → Until P Q p
+until-ahead P Q p h (n, g, f) = (suc n, g, before)
+  where
+    before : (j : ℕ) → j < suc n → P (p j)
+    before zero l = h
+    before (suc j) l = f j (omega arith)
 
 module _ (k : Kripke) (law : Closed k) (f g : ℕ → Bool) where
   abbrev U : (ℕ → ℕ) → Type 0
@@ -19,7 +26,7 @@ module _ (k : Kripke) (law : Closed k) (f g : ℕ → Bool) where
   pub at-once : (e : Bool) (s : ℕ) → s < size k → g s ≡ true → Paths k e s U
   at-once true s h on = λ p way. (0, ap g (way .starts) ∙ on, λ i l. absurd (omega arith))
   at-once false s h on =
-      let w = through k law s (first (successors k s)) h (first-member (successors k s) (law .onward s h)) in
+      let w = from-here k law s h in
       (w .0, w .1, (0, ap g (w .1 .starts) ∙ on, λ i l. absurd (omega arith)))
 
   -- A state of f that steps to marked states.

@@ -1,4 +1,4 @@
 pub mod Rows
 pub mod Breaches
 pub mod Evaluated
-pub mod Tests
+pub mod Marks

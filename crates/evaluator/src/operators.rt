@@ -1,5 +1,5 @@
 ghost use Prim.Native.Nat.{ℕ, _<_};
-ghost use Rattle.evaluator.specs.Tests.{Applies, Divides, Marked, Sweeps, Trim, Whole, marks, steps};
+ghost use Rattle.evaluator.specs.Marks.{Applies, Divides, Marked, Sweeps, Trim, Whole, marks, steps};
 ghost use Rattle.kripke.specs.Ctl.{Always, Next, Until};
 ghost use Rattle.kripke.specs.Nodes.{operator};
 ghost use Rattle.kripke.specs.Structure.{answer, size, successors};

@@ -1,6 +1,6 @@
 ghost use Prim.Native.Nat.{ℕ, _*_, _+_, _<_, _≤_};
 ghost use Rattle.evaluator.specs.Rows.{at, bit};
-ghost use Rattle.evaluator.specs.Tests.{marks, tally};
+ghost use Rattle.evaluator.specs.Marks.{marks, tally};
 ghost use lib.Dec.{eqb, ltb};
 ghost use lib.ListN.{getD, length};
 ghost use mathlib.Core.Bool.{Bool·beq, _&&_, _||_, not};

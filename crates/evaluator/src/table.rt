@@ -1,7 +1,7 @@
 ghost use Prim.Native.Nat.{ℕ, _*_, _<_, _≤_};
 ghost use Rattle.evaluator.specs.Breaches.{Breach};
 ghost use Rattle.evaluator.specs.Rows.{at};
-ghost use Rattle.evaluator.specs.Tests.{Filled, Ready, marks};
+ghost use Rattle.evaluator.specs.Marks.{Filled, Ready, marks};
 ghost use Rattle.kripke.specs.Nodes.{LawfulNode};
 ghost use Rattle.kripke.specs.Refusals.{Judged};
 ghost use Rattle.kripke.specs.declared.refusal.Layer.the-variants as layer;

@@ -1,7 +1,7 @@
 use mathlib.Core.Path.{subst}
 use lib.ListN.{length}
 use Prim.Native.Nat.{ℕ}
-use Rattle.evaluator.specs.Tests.{Ready, marks}
+use Rattle.evaluator.specs.Marks.{Ready, marks}
 use Rattle.evaluator.proofs.Breaches.{clean}
 use Rattle.evaluator.proofs.Numbers.{evaluated}
 use Rattle.evaluator.proofs.evaluate.Needs as need

@@ -1,4 +1,4 @@
-use Rattle.evaluator.specs.Tests.{marks}
+use Rattle.evaluator.specs.Marks.{marks}
 use Rattle.evaluator.proofs.Turns.{always-divides}
 use Rattle.evaluator.proofs.operators.always.Needs as need
 

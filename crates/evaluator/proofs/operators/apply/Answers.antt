@@ -4,7 +4,7 @@ use Prim.Native.Nat.{ℕ}
 use Rattle.kripke.specs.Ctl.{truth}
 use Rattle.kripke.specs.Structure.{Kripke}
 use Rattle.evaluator.specs.Rows.{Tells}
-use Rattle.evaluator.specs.Tests.{marks}
+use Rattle.evaluator.specs.Marks.{marks}
 use Rattle.evaluator.proofs.Meanings.{by-code, is-true, is-question, is-not, is-and, is-or, is-ex, is-ax, is-ef, is-af, is-eg, is-ag, is-eu, is-au}
 use Rattle.evaluator.proofs.operators.apply.Needs as need
 

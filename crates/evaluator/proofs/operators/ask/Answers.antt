@@ -6,7 +6,7 @@ use native.Mathlib.Omega.{arith}
 use lib.Dec.{ltb}
 use lib.ListN.{getD}
 use Rattle.kripke.specs.Structure.{Kripke, answer, size}
-use Rattle.evaluator.specs.Tests.{marks}
+use Rattle.evaluator.specs.Marks.{marks}
 use Rattle.evaluator.proofs.Nexts.{took, passed}
 use Rattle.evaluator.proofs.operators.ask.Needs as need
 use Rattle.evaluator.proofs.operators.ask.Needs.{then-answer, else-answer}

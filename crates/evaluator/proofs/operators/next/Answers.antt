@@ -5,7 +5,7 @@ use Prim.Native.Nat.{ℕ, _+_, _<_}
 use native.Mathlib.Omega.{arith}
 use lib.Dec.{ltb}
 use Rattle.kripke.specs.Structure.{Kripke, size, successors}
-use Rattle.evaluator.specs.Tests.{marks, steps}
+use Rattle.evaluator.specs.Marks.{marks, steps}
 use Rattle.evaluator.proofs.Nexts.{next-divides, took, passed}
 use Rattle.evaluator.proofs.operators.next.Needs as need
 use Rattle.evaluator.proofs.operators.next.Needs.{then-onward, else-onward}

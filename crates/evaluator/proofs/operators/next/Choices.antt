@@ -4,7 +4,7 @@ use mathlib.Core.Bool.{_&&_}
 use Prim.Native.Nat.{ℕ, _<_}
 use lib.Dec.{ltb}
 use Rattle.kripke.specs.Structure.{successors}
-use Rattle.evaluator.specs.Tests.{marks, steps}
+use Rattle.evaluator.specs.Marks.{marks, steps}
 use Rattle.evaluator.proofs.operators.next.Given as given
 
 abbrev pub Inv-loop-s : given.InvT-loop-s

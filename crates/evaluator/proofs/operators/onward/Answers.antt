@@ -4,7 +4,7 @@ use Prim.Native.Nat.{ℕ, _<_}
 use native.Mathlib.Omega.{arith}
 use lib.ListN.{length}
 use Rattle.kripke.specs.Structure.{Kripke, successors, orFirst}
-use Rattle.evaluator.specs.Tests.{marks}
+use Rattle.evaluator.specs.Marks.{marks}
 use Rattle.evaluator.proofs.Members.{member-at, stepped, stopped, ended}
 use Rattle.evaluator.proofs.operators.onward.Needs as need
 

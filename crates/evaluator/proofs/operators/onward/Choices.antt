@@ -2,7 +2,7 @@
 use mathlib.Core.Path.{_≡_}
 use lib.ListN.{drop, length}
 use Rattle.kripke.specs.Structure.{successors}
-use Rattle.evaluator.specs.Tests.{marks, steps}
+use Rattle.evaluator.specs.Marks.{marks, steps}
 use Rattle.evaluator.proofs.operators.onward.Given as given
 
 abbrev pub Inv-loop-i : given.InvT-loop-i

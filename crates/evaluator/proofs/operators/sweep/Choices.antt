@@ -1,5 +1,5 @@
 -- The states from s on are done.
-use Rattle.evaluator.specs.Tests.{marks}
+use Rattle.evaluator.specs.Marks.{marks}
 use Rattle.evaluator.proofs.Sweeps.{Swept}
 use Rattle.evaluator.proofs.operators.sweep.Given as given
 

@@ -4,7 +4,7 @@ use Prim.Native.Nat.{ℕ}
 use native.Mathlib.Omega.{arith}
 use Rattle.kripke.specs.Structure.{Kripke}
 use Rattle.kripke.specs.Ctl.{Until}
-use Rattle.evaluator.specs.Tests.{Divides, Marked, Trim, marks}
+use Rattle.evaluator.specs.Marks.{Divides, Marked, Trim, marks}
 use Rattle.evaluator.proofs.Tallies.{tally-le}
 use Rattle.evaluator.proofs.Sweeps.{sown, grew, reaped}
 use Rattle.evaluator.proofs.operators.until.Needs as need

@@ -1,6 +1,6 @@
 -- The marks have grown out of those of g; the unmarked grow fewer.
 use Prim.Native.Nat.{_-_}
-use Rattle.evaluator.specs.Tests.{marks, tally}
+use Rattle.evaluator.specs.Marks.{marks, tally}
 use Rattle.evaluator.proofs.Sweeps.{Grown}
 use Rattle.evaluator.proofs.operators.until.Given as given
 

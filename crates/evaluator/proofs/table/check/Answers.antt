@@ -8,7 +8,7 @@ use borrow.Author.Tests.{eqb-true, eqb-false}
 use Rattle.kripke.specs.Refusals.{Judged}
 use Rattle.kripke.specs.declared.refusal.Layer.the-variants as layer
 use Rattle.evaluator.specs.Breaches.{Breach}
-use Rattle.evaluator.specs.Tests.{Ready}
+use Rattle.evaluator.specs.Marks.{Ready}
 use Rattle.evaluator.proofs.Breaches.{first-count, first-node, first-words, clean}
 use Rattle.evaluator.proofs.table.check.Needs as need
 

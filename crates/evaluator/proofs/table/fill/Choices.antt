@@ -1,5 +1,5 @@
 -- The rows below i are made.
-use Rattle.evaluator.specs.Tests.{Filled}
+use Rattle.evaluator.specs.Marks.{Filled}
 use Rattle.evaluator.proofs.table.fill.Given as given
 
 abbrev pub Inv-loop-i : given.InvT-loop-i
