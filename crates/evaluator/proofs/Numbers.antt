@@ -31,13 +31,13 @@ counted P q zero is = none
 counted P q (suc n) is =
     let rest : Count P n (tally q n) = counted P q n (λ s h. is s (omega arith)) in
     ⊎-elim
-      (λ (on : q n ≡ true).
-        let one : suc (tally q n) ≡ cond (q n) 1 0 + tally q n = omega (arith, weighs-one (q n) on) in
-        subst (Count P (suc n)) one (more n (tally q n) rest (is n (omega arith) .0 on)))
-      (λ (off : q n ≡ false).
-        let same : tally q n ≡ cond (q n) 1 0 + tally q n = omega (arith, weighs-none (q n) off) in
-        subst (Count P (suc n)) same (pass n (tally q n) rest (λ x. both-ways (q n) off (is n (omega arith) .1 x))))
-      (cases-bool (q n))
+    (λ (on : q n ≡ true).
+    let one : suc (tally q n) ≡ cond (q n) 1 0 + tally q n = omega (arith, weighs-one (q n) on) in
+    subst (Count P (suc n)) one (more n (tally q n) rest (is n (omega arith) .0 on)))
+    (λ (off : q n ≡ false).
+    let same : tally q n ≡ cond (q n) 1 0 + tally q n = omega (arith, weighs-none (q n) off) in
+    subst (Count P (suc n)) same (pass n (tally q n) rest (λ x. both-ways (q n) off (is n (omega arith) .1 x))))
+    (cases-bool (q n))
 
 tally-off : (q : ℕ → Bool) (n : ℕ) → ((s : ℕ) → s < n → q s ≡ false) → tally q n ≡ 0
 unfolding tally
@@ -49,7 +49,7 @@ numbered n k law f q t =
     let few = law .few in
     let all : size k + (256 - size k) ≡ 256 = omega arith in
     let off : tally (λ s. q (size k + s)) (256 - size k) ≡ 0 =
-      tally-off (λ s. q (size k + s)) (256 - size k) (λ s l. t .beyond (size k + s) (omega arith) (omega arith)) in
+    tally-off (λ s. q (size k + s)) (256 - size k) (λ s l. t .beyond (size k + s) (omega arith) (omega arith)) in
     let whole : tally q (size k) ≡ tally q 256 = omega (arith, tally-add q (size k) (256 - size k), ap (tally q) all) in
     subst (Count (Holds k f) (size k)) whole (counted (Holds k f) q (size k) (t .here))
 
