@@ -1,0 +1,3 @@
+// The reader of formulas.
+
+pub mod token;
