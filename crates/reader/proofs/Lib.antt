@@ -1,1 +1,4 @@
 pub mod Splits
+pub mod Streams
+pub mod Phrases
+pub mod Heads

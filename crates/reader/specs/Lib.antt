@@ -1,1 +1,5 @@
 pub mod Tokens
+pub mod Grammar
+pub mod Table
+pub mod Breaches
+pub mod Phrases

@@ -1,3 +1,4 @@
 // The reader of formulas.
 
-pub mod token;
+mod head;
+mod token;

@@ -6,7 +6,7 @@ ghost use mathlib.Core.List.{List};
 ghost use mathlib.Core.Path.{_≡_};
 
 // The operators of one argument.
-#[derive(Clone, Copy, PartialEq, Eq, Debug)]
+#[derive(Clone, Copy, PartialEq, Eq)]
 pub enum Unary {
     Not,
     EX,
@@ -18,14 +18,14 @@ pub enum Unary {
 }
 
 // On some path, or on every one.
-#[derive(Clone, Copy, PartialEq, Eq, Debug)]
+#[derive(Clone, Copy, PartialEq, Eq)]
 pub enum Quantifier {
     Exists,
     Forall,
 }
 
 // What stands in a text: T; a question; an operator of one argument; E or A alone; one of & | ( ) [ ] U; another byte; the end.
-#[derive(Clone, Copy, PartialEq, Eq, Debug)]
+#[derive(Clone, Copy, PartialEq, Eq)]
 pub enum Token {
     Truth,
     Question(u8),
