@@ -2,3 +2,8 @@ pub mod Splits
 pub mod Streams
 pub mod Phrases
 pub mod Heads
+pub mod Levels
+pub mod Clear
+pub mod Tables
+pub mod Lawful
+pub mod Places
