@@ -8,6 +8,7 @@ use Rattle.std.specs.declared.option.Option.the-variants.{None, Some}
 use Rattle.kripke.specs.Ctl.{Formula, truth, question, not, and, or, EX, AX, EF, AF, EG, AG, EU, AU}
 use Rattle.reader.specs.declared.token.Token.{Token}
 use Rattle.reader.specs.declared.token.Token.the-variants as token
+use Rattle.reader.specs.declared.token.Sign.the-variants as sign
 use Rattle.reader.specs.declared.token.Unary.{Unary}
 use Rattle.reader.specs.declared.token.Unary.the-variants as unary
 use Rattle.reader.specs.declared.token.Quantifier.the-variants.{Exists, Forall}
@@ -16,12 +17,12 @@ use Rattle.reader.specs.declared.head.Opening.the-variants.{Pair, Until}
 use Rattle.reader.specs.declared.head.Head.{Head}
 use Rattle.reader.specs.declared.head.Head.the-variants as head
 use Rattle.reader.specs.Grammar.{Mark, mark, marks, toks}
-use Rattle.reader.specs.Phrases.{Phrase, Then, Nothing, Exact, Form, conj, disj, Opened, Middle, closing, joined, applied, opening}
+use Rattle.reader.specs.Phrases.{Phrase, Then, Nothing, Signed, Form, conj, disj, Opened, Middle, closing, joined, applied, opening}
 use Rattle.reader.proofs.Phrases.{UniqueAt, Unique, clash, seq-unique, nothing-unique, exact-unique, opened-unique, middle-unique}
 
 -- What follows the first token, at level n.
 abbrev pub Last : ℕ → Opening → Phrase
-Last n o = Then (Form n) (Exact (closing o))
+Last n o = Then (Form n) (Signed (closing o))
 
 abbrev pub Second : ℕ → Opening → Phrase
 Second n o = Then (Middle o) (Last n o)
@@ -81,13 +82,13 @@ headOf token.Truth = Some head.Truth
 headOf (token.Question j) = Some (head.Question j)
 headOf (token.Unary u) = Some (head.Unary u)
 headOf (token.Alone q) = Some (head.Binary (Until q))
-headOf token.And = None
-headOf token.Or = None
-headOf token.Open = Some (head.Binary Pair)
-headOf token.Close = None
-headOf token.Left = None
-headOf token.Right = None
-headOf token.Until = None
+headOf (token.Sign sign.And) = None
+headOf (token.Sign sign.Or) = None
+headOf (token.Sign sign.Open) = Some (head.Binary Pair)
+headOf (token.Sign sign.Close) = None
+headOf (token.Sign sign.Left) = None
+headOf (token.Sign sign.Right) = None
+headOf (token.Sign sign.Until) = None
 headOf token.Other = None
 headOf token.End = None
 
@@ -151,7 +152,7 @@ tail-unique : (n : ℕ) (o : Opening) (m : Middle o .A) (f g : Formula) → Uniq
 tail-unique n o m f g uf ug =
     seq-unique (Opened o) (Arguments n o) (Opened o .any) (f, (m, (g, tt))) (opened-unique o (Opened o .any))
       (seq-unique (Form n) (Second n o) f (m, (g, tt)) uf
-        (seq-unique (Middle o) (Last n o) m (g, tt) (middle-unique o m) (seq-unique (Form n) (Exact (closing o)) g tt ug (exact-unique (closing o) tt))))
+        (seq-unique (Middle o) (Last n o) m (g, tt) (middle-unique o m) (seq-unique (Form n) (Signed (closing o)) g tt ug (exact-unique (token.Sign (closing o)) tt))))
 
 pub unique : (f : Formula) (l : ℕ) → UniqueAt (Form l) f
 unique = induction (λ f. (l : ℕ) → UniqueAt (Form l) f)

@@ -10,6 +10,7 @@ use Rattle.std.proofs.shelf.Tests.{cases-lt}
 use Rattle.kripke.specs.Ctl.{Formula}
 use Rattle.kripke.specs.Nodes.{LawfulNode, blank, WellFormed}
 use Rattle.kripke.specs.declared.node.Node.{Node}
+use Rattle.reader.specs.declared.token.Token.the-variants as token
 use Rattle.reader.specs.declared.token.Unary.{Unary}
 use Rattle.reader.specs.declared.token.Unary.the-variants as unary
 use Rattle.reader.specs.declared.token.Quantifier.the-variants.{Exists, Forall}
@@ -80,10 +81,10 @@ lawful-joined q o m f g h k l i al =
     let some = some-node f i in
     let more = some-node g (i + length ns) in
     let after = all-right q (Opened o .mk (Opened o .any)) _ (subst (All q) (built-marks l (head.Binary o) (Opened o .any, (f, (m, (g, tt))))) al .1) in
-    let second = all-right q (Middle o .mk m) (marks (suc l) g ++ (mark (closing o) 0 ∷ [])) (all-right q (marks (suc l) f) _ after) in
+    let second = all-right q (Middle o .mk m) (marks (suc l) g ++ (mark (token.Sign (closing o)) 0 ∷ [])) (all-right q (marks (suc l) f) _ after) in
     subst (Ordered-from q i) (sym (joined-nodes i o m f g))
       (append-ordered q i ns (ms ++ (n ∷ [])) (h (suc l) i (all-left q (marks (suc l) f) _ after))
-        (append-ordered q (i + length ns) ms (n ∷ []) (k (suc l) (i + length ns) (all-left q (marks (suc l) g) (mark (closing o) 0 ∷ []) second))
+        (append-ordered q (i + length ns) ms (n ∷ []) (k (suc l) (i + length ns) (all-left q (marks (suc l) g) (mark (token.Sign (closing o)) 0 ∷ []) second))
           (one-ordered q (i + length ns + length ms) n (joined-lawful q (i + length ns + length ms) _ _ o m (omega arith) (omega arith)))))
 
 lawful-from : (q : ℕ) (f : Formula) → Lawful-from q f

@@ -6,12 +6,13 @@ use Prim.Native.Nat.{ℕ, zero, suc}
 use Rattle.kripke.specs.Ctl.{Formula}
 use Rattle.reader.specs.declared.token.Token.{Token}
 use Rattle.reader.specs.declared.token.Token.the-variants as token
+use Rattle.reader.specs.declared.token.Sign.the-variants as sign
 use Rattle.reader.specs.declared.head.Opening.{Opening}
 use Rattle.reader.specs.declared.head.Opening.the-variants.{Pair, Until}
 use Rattle.reader.specs.declared.head.Head.{Head}
 use Rattle.reader.specs.declared.head.Head.the-variants as head
 use Rattle.reader.specs.Grammar.{Mark, mark, marks, toks, whole}
-use Rattle.reader.specs.Phrases.{Phrase, Then, Nothing, Exact, Form, linking, Linked, Opened, Middle, closing, opening}
+use Rattle.reader.specs.Phrases.{Phrase, Then, Nothing, Exact, Signed, Form, linking, Linked, Opened, Middle, closing, opening}
 use Rattle.reader.proofs.Phrases.{clash}
 use Rattle.reader.proofs.Heads.{Last, Second, Arguments, Tail, built, built-marks, begins-with, one-head, induction}
 
@@ -48,11 +49,11 @@ exact-det t y ps v r qs w s e1 e2 e3 = ⊎-elim inl (λ z. inr (z .1)) (mark-ste
 
 opened-det : (o : Opening) → DetAt (Opened o) (Opened o .any)
 opened-det Pair = nothing-det
-opened-det (Until q) = exact-det token.Left
+opened-det (Until q) = exact-det (token.Sign sign.Left)
 
 middle-det : (o : Opening) (m : Middle o .A) → DetAt (Middle o) m
-middle-det Pair k y ps v r qs w s e1 e2 e3 = ⊎-elim inl (λ z. inr (z .1)) (mark-step (linking k) (linking y) 0 ps v r qs w s e1 e2 e3)
-middle-det (Until q) k y ps v r qs w s e1 e2 e3 = exact-det token.Until y ps v r qs w s e1 e2 e3
+middle-det Pair k y ps v r qs w s e1 e2 e3 = ⊎-elim inl (λ z. inr (z .1)) (mark-step (token.Sign (linking k)) (token.Sign (linking y)) 0 ps v r qs w s e1 e2 e3)
+middle-det (Until q) k y ps v r qs w s e1 e2 e3 = exact-det (token.Sign sign.Until) y ps v r qs w s e1 e2 e3
 
 head-det : (l : ℕ) (h : Head) (x : Tail (suc l) h .A) → DetAt (Tail (suc l) h) x → DetAt (Form l) (built (suc l) h x)
 head-det l h x dx g ps v r qs w s e1 e2 e3 =
@@ -76,7 +77,7 @@ tail-det : (n : ℕ) (o : Opening) (m : Middle o .A) (f g : Formula) → DetAt (
 tail-det n o m f g df dg =
     seq-det (Opened o) (Arguments n o) (Opened o .any) (f, (m, (g, tt))) (opened-det o)
       (seq-det (Form n) (Second n o) f (m, (g, tt)) df
-        (seq-det (Middle o) (Last n o) m (g, tt) (middle-det o m) (seq-det (Form n) (Exact (closing o)) g tt dg (exact-det (closing o)))))
+        (seq-det (Middle o) (Last n o) m (g, tt) (middle-det o m) (seq-det (Form n) (Signed (closing o)) g tt dg (exact-det (token.Sign (closing o))))))
 
 determined : (f : Formula) (l : ℕ) → DetAt (Form l) f
 determined = induction (λ f. (l : ℕ) → DetAt (Form l) f)

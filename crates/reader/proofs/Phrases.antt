@@ -9,6 +9,7 @@ use Rattle.kripke.specs.declared.refusal.Cause.the-variants as cause
 use Rattle.kripke.specs.declared.refusal.Layer.the-variants as layer
 use Rattle.reader.specs.declared.token.Token.{Token}
 use Rattle.reader.specs.declared.token.Token.the-variants as token
+use Rattle.reader.specs.declared.token.Sign.the-variants as sign
 use Rattle.reader.specs.declared.head.Opening.{Opening}
 use Rattle.reader.specs.declared.head.Opening.the-variants.{Pair, Until}
 use Rattle.reader.specs.Tokens.{Stream, first, offset, After}
@@ -57,11 +58,11 @@ link-unique disj disj r s e = (refl, cc)
 
 pub opened-unique : (o : Opening) → Unique (Opened o)
 opened-unique Pair = nothing-unique
-opened-unique (Until q) = exact-unique token.Left
+opened-unique (Until q) = exact-unique (token.Sign sign.Left)
 
 pub middle-unique : (o : Opening) → Unique (Middle o)
 middle-unique Pair = link-unique
-middle-unique (Until q) = exact-unique token.Until
+middle-unique (Until q) = exact-unique (token.Sign sign.Until)
 
 -- A refusal within the first of two phrases.
 pub in-first : (P Q : Phrase) (c : ℕ) (s : Stream) (e : Refusal) → Refused P c s e → Refused (Then P Q) c s e

@@ -14,7 +14,7 @@ use Rattle.std.proofs.shelf.Tests.{eq-eqb, ne-eqb, cond-true, cond-false}
 use Rattle.reader.specs.declared.token.Unary.{Unary}
 use Rattle.reader.specs.declared.token.Token.{Token}
 use Rattle.reader.specs.declared.token.Token.the-variants.{Question, Other}
-use Rattle.reader.specs.Tokens.{sign, operator, operatorSplit, numeral, asking, acting, lex}
+use Rattle.reader.specs.Tokens.{single, operator, operatorSplit, numeral, asking, acting, lex}
 
 -- What follows is the rest of the text.
 left : {X : Type 0} (x : X) (o : Option X) (n : ℕ) (ts : List ℕ) → o ≡ Some x
@@ -56,7 +56,7 @@ none-mapped : (o : Option Unary) (l : List ℕ) → None ≡ mapped {U = Unary �
 none-mapped None l e = refl
 none-mapped (Some u) l e = let z : _≡_ {A = ℕ} 0 1 = cc in absurd (omega arith)
 
-pub sign-split : (ts : List ℕ) (t : Token) → 1 ≤ length ts → (getD ts 0 0 ≡ 113 → ⊥) → None ≡ operatorSplit ts → t ≡ sign (getD ts 0 0)
+pub sign-split : (ts : List ℕ) (t : Token) → 1 ≤ length ts → (getD ts 0 0 ≡ 113 → ⊥) → None ≡ operatorSplit ts → t ≡ single (getD ts 0 0)
     → Splits ts t (take (length ts - 1) (drop 1 ts))
 sign-split [] t h p e q = absurd (omega arith)
 sign-split (b ∷ bs) t h p e q =

@@ -8,10 +8,11 @@ use lib.Dec.{eqb, leb}
 use Rattle.std.specs.declared.option.Option.{Option}
 use Rattle.std.specs.declared.option.Option.the-variants.{None, Some}
 use Rattle.reader.specs.declared.token.Token.{Token}
-use Rattle.reader.specs.declared.token.Token.the-variants.{End, Truth, Question, Unary, Alone, And, Or, Open, Close, Left, Right, Until, Other}
+use Rattle.reader.specs.declared.token.Token.the-variants.{End, Truth, Question, Unary, Alone, Sign, Other}
+use Rattle.reader.specs.declared.token.Sign.the-variants.{And, Or, Open, Close, Left, Right, Until}
 use Rattle.reader.specs.declared.token.Unary.the-variants.{Not}
 use Rattle.reader.specs.declared.token.Quantifier.the-variants.{Exists, Forall}
-use Rattle.reader.specs.Tokens.{sign, operator, numeral, asking, acting, lex, Stream, done, next, first, rest, offset, kinds, After, tokens}
+use Rattle.reader.specs.Tokens.{single, operator, numeral, asking, acting, lex, Stream, done, next, first, rest, offset, kinds, After, tokens}
 
 -- Any token but the end.
 abbrev pub Real : Token → Type 0
@@ -19,13 +20,7 @@ Real Truth = Unit {0}
 Real (Question j) = Unit {0}
 Real (Unary u) = Unit {0}
 Real (Alone q) = Unit {0}
-Real And = Unit {0}
-Real Or = Unit {0}
-Real Open = Unit {0}
-Real Close = Unit {0}
-Real Left = Unit {0}
-Real Right = Unit {0}
-Real Until = Unit {0}
+Real (Sign t) = Unit {0}
 Real Other = Unit {0}
 Real End = ⊥
 
@@ -42,18 +37,18 @@ pick : (x : Bool) (p q : Token) → Real p → Real q → Real (cond x p q)
 pick true p q a b = a
 pick false p q a b = b
 
-sign-real : (b : ℕ) → Real (sign b)
-sign-real b =
-    pick (eqb b 84) Truth _ tt (pick (eqb b 33) (Unary Not) _ tt (pick (eqb b 38) And _ tt (pick (eqb b 124) Or _ tt
-      (pick (eqb b 40) Open _ tt (pick (eqb b 41) Close _ tt (pick (eqb b 91) Left _ tt (pick (eqb b 93) Right _ tt
-        (pick (eqb b 85) Until _ tt (pick (eqb b 69) (Alone Exists) _ tt (pick (eqb b 65) (Alone Forall) Other tt tt))))))))))
+single-real : (b : ℕ) → Real (single b)
+single-real b =
+    pick (eqb b 84) Truth _ tt (pick (eqb b 33) (Unary Not) _ tt (pick (eqb b 38) (Sign And) _ tt (pick (eqb b 124) (Sign Or) _ tt
+      (pick (eqb b 40) (Sign Open) _ tt (pick (eqb b 41) (Sign Close) _ tt (pick (eqb b 91) (Sign Left) _ tt (pick (eqb b 93) (Sign Right) _ tt
+        (pick (eqb b 85) (Sign Until) _ tt (pick (eqb b 69) (Alone Exists) _ tt (pick (eqb b 65) (Alone Forall) Other tt tt))))))))))
 
 asking-real : (o : Option (ℕ × ℕ)) → Real (asking o .0)
 asking-real None = tt
 asking-real (Some n) = tt
 
 acting-real : (b : ℕ) (o : _) → Real (acting b o .0)
-acting-real b None = sign-real b
+acting-real b None = single-real b
 acting-real b (Some u) = tt
 
 lex-real : (b : ℕ) (bs : List ℕ) → Real (lex (b ∷ bs) .0)

@@ -4,7 +4,9 @@ use mathlib.Core.List.{List, [], _∷_, _++_}
 use Prim.Native.Nat.{ℕ, suc, _≤_, _<_}
 use Rattle.kripke.specs.Ctl.{Formula, truth, question, not, and, or, EX, AX, EF, AF, EG, AG, EU, AU}
 use Rattle.reader.specs.declared.token.Token.{Token}
-use Rattle.reader.specs.declared.token.Token.the-variants.{Truth, Question, Unary, Alone, And, Or, Open, Close, Left, Right, Until, Other, End}
+use Rattle.reader.specs.declared.token.Token.the-variants.{Truth, Question, Unary, Alone, Sign, Other, End}
+use Rattle.reader.specs.declared.token.Sign as sign
+use Rattle.reader.specs.declared.token.Sign.the-variants.{And, Or, Open, Close, Left, Right, Until}
 use Rattle.reader.specs.declared.token.Unary.the-variants as unary
 use Rattle.reader.specs.declared.token.Quantifier.{Quantifier}
 use Rattle.reader.specs.declared.token.Quantifier.the-variants.{Exists, Forall}
@@ -15,11 +17,11 @@ pub data Mark : Type 0 where
   mark : Token → ℕ → Mark
 
 -- (f&g) or (f|g), and E[f U g] or A[f U g], at level l.
-abbrev pub pair : ℕ → List Mark → Token → List Mark → List Mark
-pair l f t g = mark Open l ∷ (f ++ (mark t 0 ∷ (g ++ (mark Close 0 ∷ []))))
+abbrev pub pair : ℕ → List Mark → sign.Sign → List Mark → List Mark
+pair l f t g = mark (Sign Open) l ∷ (f ++ (mark (Sign t) 0 ∷ (g ++ (mark (Sign Close) 0 ∷ []))))
 
 abbrev pub until : ℕ → Quantifier → List Mark → List Mark → List Mark
-until l q f g = mark (Alone q) l ∷ mark Left 0 ∷ (f ++ (mark Until 0 ∷ (g ++ (mark Right 0 ∷ []))))
+until l q f g = mark (Alone q) l ∷ mark (Sign Left) 0 ∷ (f ++ (mark (Sign Until) 0 ∷ (g ++ (mark (Sign Right) 0 ∷ []))))
 
 -- How a formula at level l is written; its arguments are one level deeper.
 abbrev pub marks : ℕ → Formula → List Mark
@@ -59,13 +61,7 @@ Asked c Truth = Unit {0}
 Asked c (Question j) = j < c
 Asked c (Unary u) = Unit {0}
 Asked c (Alone q) = Unit {0}
-Asked c And = Unit {0}
-Asked c Or = Unit {0}
-Asked c Open = Unit {0}
-Asked c Close = Unit {0}
-Asked c Left = Unit {0}
-Asked c Right = Unit {0}
-Asked c Until = Unit {0}
+Asked c (Sign t) = Unit {0}
 Asked c Other = Unit {0}
 Asked c End = Unit {0}
 

@@ -11,6 +11,8 @@ use Rattle.kripke.specs.declared.refusal.Cause.{Cause}
 use Rattle.kripke.specs.declared.refusal.Cause.the-variants as cause
 use Rattle.reader.specs.declared.token.Token.{Token}
 use Rattle.reader.specs.declared.token.Token.the-variants as token
+use Rattle.reader.specs.declared.token.Sign.{Sign}
+use Rattle.reader.specs.declared.token.Sign.the-variants as sign
 use Rattle.reader.specs.declared.token.Unary.{Unary}
 use Rattle.reader.specs.declared.token.Unary.the-variants as unary
 use Rattle.reader.specs.declared.token.Quantifier.the-variants.{Exists, Forall}
@@ -33,9 +35,12 @@ Then P Q = record { A = P .A × Q .A; mk = λ x. P .mk (x .0) ++ Q .mk (x .1); a
 abbrev pub Nothing : Phrase
 Nothing = record { A = Unit {0}; mk = λ x. []; any = tt }
 
--- One token with which no subformula begins.
+-- One token with which no subformula begins: a sign, or the end.
 abbrev pub Exact : Token → Phrase
 Exact t = record { A = Unit {0}; mk = λ x. mark t 0 ∷ []; any = tt }
+
+abbrev pub Signed : Sign → Phrase
+Signed t = Exact (token.Sign t)
 
 -- A formula at level l.
 abbrev pub Form : ℕ → Phrase
@@ -45,25 +50,25 @@ Form l = record { A = Formula; mk = marks l; any = truth }
 pub data Link : Type 0 where
   conj disj : Link
 
-abbrev pub linking : Link → Token
-linking conj = token.And
-linking disj = token.Or
+abbrev pub linking : Link → Sign
+linking conj = sign.And
+linking disj = sign.Or
 
 abbrev pub Linked : Phrase
-Linked = record { A = Link; mk = λ k. mark (linking k) 0 ∷ []; any = conj }
+Linked = record { A = Link; mk = λ k. mark (token.Sign (linking k)) 0 ∷ []; any = conj }
 
 -- What follows the first token of an operator of two arguments: before the first argument, between the two, and after the second.
 abbrev pub Opened : Opening → Phrase
 Opened Pair = Nothing
-Opened (Until q) = Exact token.Left
+Opened (Until q) = Signed sign.Left
 
 abbrev pub Middle : Opening → Phrase
 Middle Pair = Linked
-Middle (Until q) = Exact token.Until
+Middle (Until q) = Signed sign.Until
 
-abbrev pub closing : Opening → Token
-closing Pair = token.Close
-closing (Until q) = token.Right
+abbrev pub closing : Opening → Sign
+closing Pair = sign.Close
+closing (Until q) = sign.Right
 
 -- The formula of two arguments, and its operator's code.
 abbrev pub joined : (o : Opening) → Middle o .A → Formula → Formula → Formula
@@ -102,7 +107,7 @@ abbrev pub opening : Head → Token
 opening head.Truth = token.Truth
 opening (head.Question j) = token.Question j
 opening (head.Unary u) = token.Unary u
-opening (head.Binary Pair) = token.Open
+opening (head.Binary Pair) = token.Sign sign.Open
 opening (head.Binary (Until q)) = token.Alone q
 
 -- Why the token t is refused after the marks pre, which w continues: no P goes on with it, whatever follows; or it is a question c or beyond; or it begins a

@@ -9,18 +9,19 @@ use Rattle.std.specs.Options.{mapped}
 use Rattle.std.specs.declared.option.Option.{Option}
 use Rattle.std.specs.declared.option.Option.the-variants.{None, Some}
 use Rattle.reader.specs.declared.token.Token.{Token}
-use Rattle.reader.specs.declared.token.Token.the-variants.{Truth, Question, Alone, And, Or, Open, Close, Left, Right, Until, Other, End}
+use Rattle.reader.specs.declared.token.Token.the-variants.{Truth, Question, Alone, Sign, Other, End}
 use Rattle.reader.specs.declared.token.Token.the-variants as token
+use Rattle.reader.specs.declared.token.Sign.the-variants.{And, Or, Open, Close, Left, Right, Until}
 use Rattle.reader.specs.declared.token.Unary.{Unary}
 use Rattle.reader.specs.declared.token.Unary.the-variants.{Not, EX, AX, EF, AF, EG, AG}
 use Rattle.reader.specs.declared.token.Quantifier.the-variants.{Exists, Forall}
 
 -- The tokens of one byte: T ! & | ( ) [ ] U, E or A alone, and any other byte.
-abbrev pub sign : ℕ → Token
-sign b =
-    cond (eqb b 84) Truth (cond (eqb b 33) (token.Unary Not) (cond (eqb b 38) And (cond (eqb b 124) Or
-      (cond (eqb b 40) Open (cond (eqb b 41) Close (cond (eqb b 91) Left (cond (eqb b 93) Right
-        (cond (eqb b 85) Until (cond (eqb b 69) (Alone Exists) (cond (eqb b 65) (Alone Forall) Other))))))))))
+abbrev pub single : ℕ → Token
+single b =
+    cond (eqb b 84) Truth (cond (eqb b 33) (token.Unary Not) (cond (eqb b 38) (Sign And) (cond (eqb b 124) (Sign Or)
+      (cond (eqb b 40) (Sign Open) (cond (eqb b 41) (Sign Close) (cond (eqb b 91) (Sign Left) (cond (eqb b 93) (Sign Right)
+        (cond (eqb b 85) (Sign Until) (cond (eqb b 69) (Alone Exists) (cond (eqb b 65) (Alone Forall) Other))))))))))
 
 -- The operators of two bytes: E or A directly before X, F or G.
 abbrev pub step : ℕ → Unary → Unary → Unary → Option Unary
@@ -50,7 +51,7 @@ asking None = (Other, 1)
 asking (Some n) = (Question (n .0), suc (n .1))
 
 abbrev pub acting : ℕ → Option Unary → Token × ℕ
-acting b None = (sign b, 1)
+acting b None = (single b, 1)
 acting b (Some u) = (token.Unary u, 2)
 
 abbrev pub lex : List ℕ → Token × ℕ

@@ -1,12 +1,12 @@
 ghost use Prim.Native.Nat.{ℕ};
-ghost use Rattle.reader.specs.Tokens.{lex, numeral, operatorSplit, sign};
+ghost use Rattle.reader.specs.Tokens.{lex, numeral, operatorSplit, single};
 ghost use Rattle.std.specs.Options.{mapped};
 ghost use lib.ListN.{drop};
 ghost use mathlib.Core.List.{List};
 ghost use mathlib.Core.Path.{_≡_};
 
 // The operators of one argument.
-#[derive(Clone, Copy, PartialEq, Eq)]
+#[derive(Clone, Copy)]
 pub enum Unary {
     Not,
     EX,
@@ -18,19 +18,15 @@ pub enum Unary {
 }
 
 // On some path, or on every one.
-#[derive(Clone, Copy, PartialEq, Eq)]
+#[derive(Clone, Copy)]
 pub enum Quantifier {
     Exists,
     Forall,
 }
 
-// What stands in a text: T; a question; an operator of one argument; E or A alone; one of & | ( ) [ ] U; another byte; the end.
+// The signs & | ( ) [ ] U.
 #[derive(Clone, Copy, PartialEq, Eq)]
-pub enum Token {
-    Truth,
-    Question(u8),
-    Unary(Unary),
-    Alone(Quantifier),
+pub enum Sign {
     And,
     Or,
     Open,
@@ -38,24 +34,34 @@ pub enum Token {
     Left,
     Right,
     Until,
+}
+
+// What stands in a text: T, a question, an operator of one argument, E or A alone, one of the other signs, any other byte, and the text's end.
+#[derive(Clone, Copy)]
+pub enum Token {
+    Truth,
+    Question(u8),
+    Unary(Unary),
+    Alone(Quantifier),
+    Sign(Sign),
     Other,
     End,
 }
 
-// The token of one sign.
-fn sign_token(byte: u8) -> Token
-    ensures { λ r. ⌜ r ≡ sign byte ⌝ }
+// The token of one byte.
+fn byte_token(byte: u8) -> Token
+    ensures { λ r. ⌜ r ≡ single byte ⌝ }
 {
     match byte as char {
         'T' => Token::Truth,
         '!' => Token::Unary(Unary::Not),
-        '&' => Token::And,
-        '|' => Token::Or,
-        '(' => Token::Open,
-        ')' => Token::Close,
-        '[' => Token::Left,
-        ']' => Token::Right,
-        'U' => Token::Until,
+        '&' => Token::Sign(Sign::And),
+        '|' => Token::Sign(Sign::Or),
+        '(' => Token::Sign(Sign::Open),
+        ')' => Token::Sign(Sign::Close),
+        '[' => Token::Sign(Sign::Left),
+        ']' => Token::Sign(Sign::Right),
+        'U' => Token::Sign(Sign::Until),
         'E' => Token::Alone(Quantifier::Exists),
         'A' => Token::Alone(Quantifier::Forall),
         _ => Token::Other,
@@ -100,7 +106,7 @@ pub fn split_token(text: &[u8]) -> (Token, &[u8])
         },
         [byte, after @ ..] => match split_operator(text) {
             Some((operator, rest)) => (Token::Unary(operator), rest),
-            None => (sign_token(*byte), after),
+            None => (byte_token(*byte), after),
         },
     }
 }

@@ -18,4 +18,4 @@ returns-in-None c =
 
 pub returns-in-None-split-operator : need.returns-in-None-split-operator
 returns-in-None-split-operator c =
-    sign-split (c .args .text .now) (c .sign-token .result) (omega (arith, ltb-false, leb-true, ltb-true, leb-false)) (λ e. omega arith) (c .in-None-split-operator .ensures tt) (c .sign-token .ensures)
+    sign-split (c .args .text .now) (c .byte-token .result) (omega (arith, ltb-false, leb-true, ltb-true, leb-false)) (λ e. omega arith) (c .in-None-split-operator .ensures tt) (c .byte-token .ensures)
