@@ -17,7 +17,7 @@ use Rattle.reader.specs.declared.head.Opening.the-variants.{Pair, Until}
 use Rattle.reader.specs.declared.head.Head.{Head}
 use Rattle.reader.specs.declared.head.Head.the-variants as head
 use Rattle.reader.specs.Grammar.{Mark, mark, marks, toks}
-use Rattle.reader.specs.Phrases.{Phrase, Then, Nothing, Signed, Form, conj, disj, Opened, Middle, closing, joined, applied, opening}
+use Rattle.reader.specs.Phrases.{Phrase, Then, Nothing, Signed, Form, conj, disj, Opened, Middle, closing, joined, applied, opening, headOf}
 use Rattle.reader.proofs.Phrases.{UniqueAt, Unique, clash, seq-unique, nothing-unique, exact-unique, opened-unique, middle-unique}
 
 -- What follows the first token, at level n.
@@ -75,22 +75,6 @@ headed n (EG f) = (head.Unary unary.EG, f, refl)
 headed n (AG f) = (head.Unary unary.AG, f, refl)
 headed n (EU f g) = (head.Binary (Until Exists), (tt, (f, (tt, (g, tt)))), refl)
 headed n (AU f g) = (head.Binary (Until Forall), (tt, (f, (tt, (g, tt)))), refl)
-
--- The head that a token begins.
-abbrev pub headOf : Token → Option Head
-headOf token.Truth = Some head.Truth
-headOf (token.Question j) = Some (head.Question j)
-headOf (token.Unary u) = Some (head.Unary u)
-headOf (token.Alone q) = Some (head.Binary (Until q))
-headOf (token.Sign sign.And) = None
-headOf (token.Sign sign.Or) = None
-headOf (token.Sign sign.Open) = Some (head.Binary Pair)
-headOf (token.Sign sign.Close) = None
-headOf (token.Sign sign.Left) = None
-headOf (token.Sign sign.Right) = None
-headOf (token.Sign sign.Until) = None
-headOf token.Other = None
-headOf token.End = None
 
 pub head-back : (h : Head) → headOf (opening h) ≡ Some h
 head-back head.Truth = refl

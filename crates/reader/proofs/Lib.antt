@@ -7,3 +7,4 @@ pub mod Clear
 pub mod Tables
 pub mod Lawful
 pub mod Places
+pub mod Ahead

@@ -3,3 +3,4 @@ pub mod Grammar
 pub mod Table
 pub mod Breaches
 pub mod Phrases
+pub mod Reading

@@ -2,6 +2,8 @@
 use mathlib.Core.Path.{_≡_}
 use mathlib.Core.List.{List, [], _∷_, _++_}
 use Prim.Native.Nat.{ℕ, suc, _≤_, _<_}
+use Rattle.std.specs.declared.option.Option.{Option}
+use Rattle.std.specs.declared.option.Option.the-variants.{None, Some}
 use Rattle.std.specs.declared.result.Result.{Result}
 use Rattle.std.specs.declared.result.Result.the-variants.{Ok, Err}
 use Rattle.kripke.specs.Ctl.{Formula, truth, question, not, and, or, EX, AX, EF, AF, EG, AG, EU, AU}
@@ -109,6 +111,22 @@ opening (head.Question j) = token.Question j
 opening (head.Unary u) = token.Unary u
 opening (head.Binary Pair) = token.Sign sign.Open
 opening (head.Binary (Until q)) = token.Alone q
+
+-- What a token begins, if anything.
+abbrev pub headOf : Token → Option Head
+headOf token.Truth = Some head.Truth
+headOf (token.Question j) = Some (head.Question j)
+headOf (token.Unary u) = Some (head.Unary u)
+headOf (token.Alone q) = Some (head.Binary (Until q))
+headOf (token.Sign sign.And) = None
+headOf (token.Sign sign.Or) = None
+headOf (token.Sign sign.Open) = Some (head.Binary Pair)
+headOf (token.Sign sign.Close) = None
+headOf (token.Sign sign.Left) = None
+headOf (token.Sign sign.Right) = None
+headOf (token.Sign sign.Until) = None
+headOf token.Other = None
+headOf token.End = None
 
 -- Why the token t is refused after the marks pre, which w continues: no P goes on with it, whatever follows; or it is a question c or beyond; or it begins a
 -- subformula at level 65.

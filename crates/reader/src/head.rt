@@ -1,7 +1,12 @@
+ghost use Rattle.reader.specs.Phrases.{appliedCode, headOf};
+ghost use Rattle.std.specs.declared.option.Option.the-variants.{None, Some};
+ghost use mathlib.Core.Path.{_≡_};
 use crate::token::Quantifier;
+use crate::token::Sign;
+use crate::token::Token;
 use crate::token::Unary;
 
-// How an operator of two arguments begins: (, or E or A.
+// How an operator of two arguments begins: with (, or with E or A.
 #[derive(Clone, Copy)]
 pub enum Opening {
     Pair,
@@ -15,4 +20,33 @@ pub enum Head {
     Question(u8),
     Unary(Unary),
     Binary(Opening),
+}
+
+// What the token begins.
+pub fn head_of(token: Token) -> Option<Head>
+    ensures { λ r. ⌜ r ≡ headOf token ⌝ }
+{
+    match token {
+        Token::Truth => Some(Head::Truth),
+        Token::Question(j) => Some(Head::Question(j)),
+        Token::Unary(operator) => Some(Head::Unary(operator)),
+        Token::Alone(quantifier) => Some(Head::Binary(Opening::Until(quantifier))),
+        Token::Sign(Sign::Open) => Some(Head::Binary(Opening::Pair)),
+        _ => None,
+    }
+}
+
+// The node code of an operator of one argument.
+pub fn unary_code(operator: Unary) -> u8
+    ensures { λ r. ⌜ r ≡ appliedCode operator ⌝ }
+{
+    match operator {
+        Unary::Not => 2,
+        Unary::EX => 5,
+        Unary::AX => 6,
+        Unary::EF => 7,
+        Unary::AF => 8,
+        Unary::EG => 9,
+        Unary::AG => 10,
+    }
 }

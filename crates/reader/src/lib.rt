@@ -1,4 +1,5 @@
 // The reader of formulas.
 
 mod head;
+mod reader;
 mod token;
