@@ -8,3 +8,5 @@ pub mod Tables
 pub mod Lawful
 pub mod Places
 pub mod Ahead
+pub mod Steps
+pub mod Chains

@@ -1,5 +1,6 @@
 -- Phrases: the parts of a formula's text that the reader takes one after another, and what it owes of each.
 use mathlib.Core.Path.{_≡_}
+use mathlib.Core.Bool.{Bool, true, false}
 use mathlib.Core.List.{List, [], _∷_, _++_}
 use Prim.Native.Nat.{ℕ, suc, _≤_, _<_}
 use Rattle.std.specs.declared.option.Option.{Option}
@@ -127,6 +128,11 @@ headOf (token.Sign sign.Right) = None
 headOf (token.Sign sign.Until) = None
 headOf token.Other = None
 headOf token.End = None
+
+-- Whether what begins is no question c or beyond.
+abbrev pub Answerable : ℕ → Head → Bool → Type 0
+Answerable c h true = Asked c (opening h)
+Answerable c h false = (j : ℕ) × (opening h ≡ token.Question j) × (c ≤ j)
 
 -- Why the token t is refused after the marks pre, which w continues: no P goes on with it, whatever follows; or it is a question c or beyond; or it begins a
 -- subformula at level 65.

@@ -42,6 +42,17 @@ pub record Next (r : Reader) (t : Token) (part : List ℕ) (r′ : Reader) : Typ
   pub onward : (t ≡ End → ⊥) → r .at < r′ .at
   pub used : r′ .used ≡ r .used
 
+-- The reader has gone on, and made no node.
+pub record Moved (r r′ : Reader) : Type 0 where
+  pub standing : Standing r′
+  pub forward : r .at ≤ r′ .at
+  pub used : r′ .used ≡ r .used
+
+-- The reader has gone on, and made at most a node a byte.
+pub record Grown (r r′ : Reader) : Type 0 where
+  pub standing : Standing r′
+  pub few : r′ .used + r .at ≤ r′ .at + r .used
+
 -- The formula's nodes have been written, numbered from i on; its own is the last of them, and then comes number i′.
 pub record Laying (i : ℕ) (before : List Node) (f : Formula) (own : ℕ) (i′ : ℕ) (after : List Node) : Type 0 where
   pub last : own + 1 ≡ i′

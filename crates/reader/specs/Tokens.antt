@@ -1,6 +1,6 @@
 -- Tokens: where each token of a text stands.
 use mathlib.Core.Path.{_≡_}
-use mathlib.Core.Bool.{Bool, cond, _&&_}
+use mathlib.Core.Bool.{Bool, true, false, cond, _&&_}
 use mathlib.Core.List.{List, [], _∷_}
 use Prim.Native.Nat.{ℕ, zero, suc, _+_, _-_, _*_}
 use lib.Dec.{eqb, leb}
@@ -15,6 +15,11 @@ use Rattle.reader.specs.declared.token.Sign.the-variants.{And, Or, Open, Close
 use Rattle.reader.specs.declared.token.Unary.{Unary}
 use Rattle.reader.specs.declared.token.Unary.the-variants.{Not, EX, AX, EF, AF, EG, AG}
 use Rattle.reader.specs.declared.token.Quantifier.the-variants.{Exists, Forall}
+
+-- Whether P holds.
+abbrev pub Decided : Type 0 → Bool → Type 0
+Decided P true = P
+Decided P false = P → ⊥
 
 -- The tokens of one byte: T ! & | ( ) [ ] U, E or A alone, and any other byte.
 abbrev pub single : ℕ → Token

@@ -1,4 +1,4 @@
-ghost use Rattle.reader.specs.Phrases.{appliedCode, headOf};
+ghost use Rattle.reader.specs.Phrases.{Answerable, appliedCode, headOf};
 ghost use Rattle.std.specs.declared.option.Option.the-variants.{None, Some};
 ghost use mathlib.Core.Path.{_≡_};
 use crate::token::Quantifier;
@@ -33,6 +33,16 @@ pub fn head_of(token: Token) -> Option<Head>
         Token::Alone(quantifier) => Some(Head::Binary(Opening::Until(quantifier))),
         Token::Sign(Sign::Open) => Some(Head::Binary(Opening::Pair)),
         _ => None,
+    }
+}
+
+// Whether the number of a question is below the count.
+pub fn asked(head: Head, questions: usize) -> bool
+    ensures { λ r. ⌜ Answerable questions head r ⌝ }
+{
+    match head {
+        Head::Question(j) => (j as usize) < questions,
+        _ => true,
     }
 }
 

@@ -1,5 +1,5 @@
 ghost use Prim.Native.Nat.{ℕ};
-ghost use Rattle.reader.specs.Tokens.{lex, numeral, operatorSplit, single};
+ghost use Rattle.reader.specs.Tokens.{Decided, lex, numeral, operatorSplit, single};
 ghost use Rattle.std.specs.Options.{mapped};
 ghost use lib.ListN.{drop};
 ghost use mathlib.Core.List.{List};
@@ -46,6 +46,15 @@ pub enum Token {
     Sign(Sign),
     Other,
     End,
+}
+
+pub fn is_sign(token: Token, sign: Sign) -> bool
+    ensures { λ r. ⌜ Decided (token ≡ Token.Sign sign) r ⌝ }
+{
+    match token {
+        Token::Sign(found) => found == sign,
+        _ => false,
+    }
 }
 
 // The token of one byte.
