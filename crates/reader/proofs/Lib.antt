@@ -10,3 +10,5 @@ pub mod Places
 pub mod Ahead
 pub mod Steps
 pub mod Chains
+pub mod Formulas
+pub mod Layings
