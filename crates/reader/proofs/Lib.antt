@@ -12,3 +12,5 @@ pub mod Steps
 pub mod Chains
 pub mod Formulas
 pub mod Layings
+pub mod Orders
+pub mod Verdicts
