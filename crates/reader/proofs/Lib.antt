@@ -14,3 +14,4 @@ pub mod Formulas
 pub mod Layings
 pub mod Orders
 pub mod Verdicts
+pub mod Judgements

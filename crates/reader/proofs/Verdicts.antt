@@ -13,15 +13,16 @@ use Rattle.kripke.specs.declared.refusal.Cause.the-variants as cause
 use Rattle.kripke.specs.declared.refusal.Layer.the-variants as layer
 use Rattle.reader.specs.declared.token.Token.{Token}
 use Rattle.reader.specs.declared.token.Token.the-variants as token
-use Rattle.reader.specs.Tokens.{Stream, tokens, first, offset, kinds, After}
+use Rattle.reader.specs.Tokens.{Stream, done, next, tokens, first, offset, kinds, After}
 use Rattle.reader.specs.Grammar.{Mark, mark, marks, toks, whole, Sentence, Viable, Asked, All, Within}
 use Rattle.reader.specs.Table.{table}
 use Rattle.reader.specs.Breaches.{Breach, long, unlimited, unexpected, unasked, deep, many, stage, Sooner}
 use Rattle.reader.specs.Phrases.{Then, Exact, Form, Why, Refused}
 use Rattle.reader.specs.Phrases as why
 use Rattle.reader.specs.Reading.{Text}
-use Rattle.reader.proofs.Streams.{Real, rising, after-kinds, after-one, begins}
-use Rattle.reader.proofs.Phrases.{toks-append, all-append}
+use Rattle.reader.proofs.Streams.{Real, Rising, rising, rising-after, after-kinds, after-one, begins}
+use Rattle.reader.proofs.Phrases.{toks-append, all-append, in-second, nothing-taken}
+use Rattle.reader.proofs.Steps.{Tells}
 use Rattle.reader.proofs.Heads.{unique}
 use Rattle.reader.proofs.Clear.{expected, not-unasked, not-deep}
 use Rattle.reader.proofs.Orders.{compare, nearer}
@@ -90,6 +91,14 @@ module _ (text : List ℕ) (q places : ℕ) (lim : Limited text q) (e : Refusal)
   middle k (why.unasked v m j a b l) = refl
   middle k (why.deep v a b) = refl
 
+  low : (k : Cause) → Why Text q (z .pre) (z .w) t k → numberOf k < 13
+  low k (why.unexpected h) = omega arith
+  low k (why.unasked v m j a b l) = omega arith
+  low k (why.deep v a b) = omega arith
+
+  pub not-both : (f : Formula) → Sentence text f → Within q f → ⊥
+  not-both f is wi = spotless text q places lim f is wi (e .cause) (offset (z .at)) (low (e .cause) (z .why)) (breach (e .cause) (z .why))
+
   -- A breach at another place that is told sooner stands in what was read; at the same place it is of a lower number.
   elsewhere : (d k : Cause) (us : List Token) (s2 : Stream) → After (tokens 0 0 text) us s2 → stage d ≡ stage k → Sooner d (offset s2) k (offset (z .at))
       → ((m : List Token) → ts ≡ us ++ (first s2 ∷ m) → ⊥) → (us ≡ ts → s2 ≡ z .at → numberOf d < numberOf k → ⊥) → ⊥
@@ -143,3 +152,19 @@ module _ (text : List ℕ) (q places : ℕ) (lim : Limited text q) (e : Refusal)
       least = λ d p so b. least (e .cause) (z .why) d p (subst (Sooner d p (e .cause)) (sym (z .here)) so) b;
       layered = z .layered
     }
+
+-- A formula, and then the end of the text, or something else.
+ends : (m : ℕ) (s : Stream) → Rising m s → first s ≡ token.End → kinds s ≡ token.End ∷ []
+ends m (done o) r e = refl
+ends m (next o t s) r e = absurd (subst Real e (r .1))
+
+pub sentence : (text : List ℕ) (f : Formula) (s : Stream) → After (tokens 0 0 text) (toks (marks 1 f)) s → first s ≡ token.End → Sentence text f
+sentence text f s h e =
+    let z = rising-after 0 (tokens 0 0 text) (toks (marks 1 f)) s h (rising 0 0 text) in
+    after-kinds (tokens 0 0 text) (toks (marks 1 f)) s h ∙ ap (λ l. toks (marks 1 f) ++ l) (ends (z .0) s (z .2) e) ∙ sym (toks-append (marks 1 f) (mark token.End 0 ∷ []))
+
+pub goes-past : (text : List ℕ) (q : ℕ) (f : Formula) (s : Stream) (e : Refusal) → After (tokens 0 0 text) (toks (marks 1 f)) s → All q (marks 1 f)
+    → (first s ≡ token.End → ⊥) → Tells s cause.Unexpected e → Refused Text q (tokens 0 0 text) e
+goes-past text q f s e h al never z =
+    in-second (Form 1) (Exact token.End) (λ g. unique g 1) q (tokens 0 0 text) s e f h al
+      (nothing-taken (Exact token.End) q s e (z .here) (z .layered) (z .caused) (λ y r v p. never (cc)))

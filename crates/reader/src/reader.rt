@@ -1,7 +1,7 @@
 ghost use Prim.Native.Nat.{ℕ, _+_, _≤_, _<_};
 ghost use Rattle.kripke.specs.declared.refusal.Layer.the-variants.{Text};
 ghost use Rattle.reader.specs.Phrases.{Begins, Form, Linked, Middle, Opened, Owes, Signed, closing, joinedCode};
-ghost use Rattle.reader.specs.Reading.{Grown, Laying, Moved, Next, Standing, Trimmed, view};
+ghost use Rattle.reader.specs.Reading.{Grown, Laying, Moved, Next, Parsed, Standing, Trimmed, view};
 ghost use Rattle.reader.specs.declared.head.Opening.the-variants.{Pair};
 ghost use Rattle.std.specs.Results.{Cases};
 ghost use lib.ListN.{length, set};
@@ -21,6 +21,9 @@ use kripke::refusal::Cause;
 use kripke::refusal::Layer;
 use kripke::refusal::Refusal;
 
+// The most levels of a formula.
+const LEVELS: u8 = 64;
+
 // A text, how far it has been read, and how many nodes have been made.
 #[derive(Drop)]
 pub struct Reader<'a> {
@@ -29,7 +32,7 @@ pub struct Reader<'a> {
     used: usize,
 }
 
-fn refusal(cause: Cause, place: usize) -> Refusal
+pub fn refusal(cause: Cause, place: usize) -> Refusal
     ensures { λ r. ⌜ (r .cause ≡ cause) × (r .layer ≡ Text) × (r .place ≡ place) ⌝ }
 {
     Refusal { cause, layer: Layer::Text, place }
@@ -193,5 +196,19 @@ impl<'a> Reader<'a> {
                 Ok(self.push(places, Node { code, a, b }))
             }
         }
+    }
+}
+
+// The text as a whole: the number of nodes of its formula, which are written as far as there are places for them.
+pub fn read_whole(text: &[u8], questions: usize, places: &mut [Node]) -> Result<usize, Refusal>
+    requires { ⌜ length (now text) ≤ 4096 ⌝ }
+    ensures { λ r. ⌜ Parsed (now (text .entry)) questions (now (places .entry)) (now (places .exit)) r ⌝ }
+{
+    let mut reader = Reader { text, at: 0, used: 0 };
+    let _own = reader.formula(questions, LEVELS, places)?;
+    let (token, part) = reader.token();
+    match token {
+        Token::End => Ok(reader.used),
+        _ => Err(refusal(Cause::Unexpected, reader.at - part.len())),
     }
 }
