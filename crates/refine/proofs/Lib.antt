@@ -1,0 +1,4 @@
+pub mod Fills
+pub mod Readings
+pub mod Somes
+pub mod Rowed
