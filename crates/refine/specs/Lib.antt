@@ -3,3 +3,6 @@ pub mod Tests
 pub mod Joint
 pub mod Tables
 pub mod Pairs
+pub mod Growth
+pub mod Classes
+pub mod Steps

@@ -1,7 +1,10 @@
 // Two models read into tables, and their states split into classes, round by round.
 
 mod asking;
+mod growth;
 mod pair;
+mod partition;
 mod reading;
 mod row;
+mod split;
 mod table;
