@@ -4,3 +4,7 @@ pub mod Refusals
 pub mod Ctl
 pub mod Nodes
 pub mod Rounds
+pub mod Tests
+pub mod Union
+pub mod Classes
+pub mod Theorems

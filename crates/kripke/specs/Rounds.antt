@@ -21,6 +21,10 @@ Same a b (suc k) s t = Same a b k s t × Matched (λ u v. Same a b k u v) a b s 
 abbrev pub Separates : Kripke → Kripke → ℕ → ℕ → Formula → Type 0
 Separates a b s t f = (Holds a f s × (Holds b f t → ⊥)) ⊎ ((Holds a f s → ⊥) × Holds b f t)
 
+-- Some CTL formula, of any size, separates the two states.
+abbrev pub Apart : Kripke → Kripke → ℕ → ℕ → Type 0
+Apart a b s t = (f : Formula) × Separates a b s t f
+
 -- Some next-only formula of nesting k or less separates the two states.
 abbrev pub Separated : Kripke → Kripke → ℕ → ℕ → ℕ → Type 0
 Separated a b k s t = (f : Formula) × NextOnly f × (nesting f ≤ k) × Separates a b s t f
@@ -39,6 +43,10 @@ place a b i = cond (ltb i (size a)) i (i - size a)
 abbrev pub Together : Kripke → Kripke → ℕ → ℕ → ℕ → Type 0
 Together a b k i j = Same (home a b i) (home a b j) k (place a b i) (place a b j)
 
+-- No next-only formula of nesting k or less separates the two numbered states.
+abbrev pub Inseparable : Kripke → Kripke → ℕ → ℕ → ℕ → Type 0
+Inseparable a b k i j = Separated (home a b i) (home a b j) k (place a b i) (place a b j) → ⊥
+
 -- The class number: the least number together with i.
 pub record ClassOf (a b : Kripke) (k i c : ℕ) : Type 0 where
   pub member : Together a b k i c
@@ -55,3 +63,10 @@ ClosedDifferent a b k = Same a b k (a .initial) (b .initial) → ⊥
 abbrev pub ClosedAlike : Kripke → Kripke → ℕ → Type 0
 ClosedAlike a b zero = ⊥
 ClosedAlike a b (suc k) = Settled a b k × Same a b (suc k) (a .initial) (b .initial)
+
+-- The comparison is closed after k rounds; and it is so after no fewer.
+abbrev pub ClosedAfter : Kripke → Kripke → ℕ → Type 0
+ClosedAfter a b k = ClosedDifferent a b k ⊎ ClosedAlike a b k
+
+abbrev pub FirstClosed : Kripke → Kripke → ℕ → Type 0
+FirstClosed a b k = ClosedAfter a b k × ((j : ℕ) → j < k → ClosedAfter a b j → ⊥)

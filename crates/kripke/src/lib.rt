@@ -4,3 +4,4 @@ pub mod label;
 pub mod model;
 pub mod node;
 pub mod refusal;
+pub mod theory;

@@ -1,0 +1,5 @@
+use Rattle.kripke.proofs.Closing.{class-by-formulas}
+use Rattle.kripke.proofs.theory.class_by_formulas.Needs as need
+
+pub returns : need.returns
+returns c = class-by-formulas

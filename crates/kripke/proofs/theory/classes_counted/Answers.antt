@@ -1,0 +1,5 @@
+use Rattle.kripke.proofs.Counts.{classes-counted}
+use Rattle.kripke.proofs.theory.classes_counted.Needs as need
+
+pub returns : need.returns
+returns c = classes-counted

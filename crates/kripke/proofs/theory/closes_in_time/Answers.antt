@@ -1,0 +1,5 @@
+use Rattle.kripke.proofs.Closing.{closes-in-time}
+use Rattle.kripke.proofs.theory.closes_in_time.Needs as need
+
+pub returns : need.returns
+returns c = closes-in-time

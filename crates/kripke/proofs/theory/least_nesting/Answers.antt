@@ -1,0 +1,5 @@
+use Rattle.kripke.proofs.Sound.{least-nesting}
+use Rattle.kripke.proofs.theory.least_nesting.Needs as need
+
+pub returns : need.returns
+returns c = least-nesting

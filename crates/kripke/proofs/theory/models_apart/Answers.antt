@@ -1,0 +1,5 @@
+use Rattle.kripke.proofs.Closing.{models-apart}
+use Rattle.kripke.proofs.theory.models_apart.Needs as need
+
+pub returns : need.returns
+returns c = models-apart

@@ -1,0 +1,5 @@
+use Rattle.kripke.proofs.Separate.{same-or-separated}
+use Rattle.kripke.proofs.theory.same_or_separated.Needs as need
+
+pub returns : need.returns
+returns c = same-or-separated

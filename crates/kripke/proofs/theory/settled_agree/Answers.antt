@@ -1,0 +1,5 @@
+use Rattle.kripke.proofs.Settle.{settled-agree}
+use Rattle.kripke.proofs.theory.settled_agree.Needs as need
+
+pub returns : need.returns
+returns c = settled-agree
