@@ -11,7 +11,7 @@ use Rattle.std.specs.Of.Vec.{vec-items}
 use Rattle.kripke.specs.Ctl.{Formula, nesting}
 use Rattle.kripke.specs.Nodes.{made, formulas, formula}
 use Rattle.kripke.specs.declared.node.Node.{Node}
-use Rattle.refine.specs.Classes.{Alike}
+use Rattle.kripke.specs.Classes.{Alike}
 use Rattle.refine.specs.Growth.{Boolean, Begun}
 use Rattle.refine.specs.Steps.{at, class-of, class-formula, Exact, Shallow, Stands, Odd, Keeps, Parted, Few, Scanned, Divided}
 use Rattle.refine.specs.declared.partition.Partition.{Partition}

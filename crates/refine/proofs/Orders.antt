@@ -15,7 +15,7 @@ use Rattle.kripke.specs.Nodes.{Operator, constant, operators, operator, applied
 use Rattle.kripke.specs.declared.node.Node.{Node}
 use Rattle.kripke.proofs.Tables.{formula-at}
 use Rattle.refine.specs.Growth.{nextNode, Orderly}
-use Rattle.refine.proofs.Somes.{T-true}
+use Rattle.refine.proofs.Somes.{T-yes}
 
 pub and-T : (x y : Bool) → T (x && y) → T x × T y
 and-T true y h = (tt, h)
@@ -26,10 +26,10 @@ T-and true y h k = k
 T-and false y h k = absurd h
 
 T-eq : (a b : ℕ) → T (eqb a b) → a ≡ b
-T-eq a b h = eqb-true a b (T-true _ h)
+T-eq a b h = eqb-true a b (T-yes _ h)
 
 T-lt : (a b : ℕ) → T (ltb a b) → a < b
-T-lt a b h = ltb-true a b (T-true _ h)
+T-lt a b h = ltb-true a b (T-yes _ h)
 
 pub lt-T : (a b : ℕ) → a < b → T (ltb a b)
 lt-T a b h = subst T (sym (lt-ltb a b h)) tt

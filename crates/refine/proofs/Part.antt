@@ -11,7 +11,8 @@ use Rattle.std.proofs.shelf.Lists.{getD-set-same, getD-set-other, length-set}
 use Rattle.kripke.specs.Ctl.{Formula, nesting}
 use Rattle.kripke.specs.Nodes.{formula}
 use Rattle.kripke.specs.declared.node.Node.{Node}
-use Rattle.refine.specs.Classes.{Low, Led, Here, leaders, bit, sum}
+use Rattle.kripke.specs.Classes.{Low, Led}
+use Rattle.refine.specs.Classes.{Here, leaders, bit, sum}
 use Rattle.refine.specs.Growth.{Orderly, Extends, Boolean, Conjoined}
 use Rattle.refine.specs.Steps.{at, moved, Odd}
 use Rattle.refine.specs.declared.partition.Partition.{Partition}

@@ -1,18 +1,22 @@
--- A state read out of a table's rows, and a numbered state in its own structure.
+-- A state read out of a table's rows, and a numbered state of both structures.
 use mathlib.Core.Path.{_≡_, refl, sym, _∙_, ap, subst}
-use mathlib.Core.Bool.{Bool, false, cond}
+use mathlib.Core.Bool.{Bool, false}
 use mathlib.Core.List.{List}
 use Prim.Native.Nat.{ℕ, _+_, _-_, _<_, _≤_}
 use native.Mathlib.Omega.{arith}
 use lib.ListN.{length, getD}
-use lib.Dec.{eqb, ltb}
+use lib.Dec.{eqb}
 use Rattle.std.specs.Of.Vec.{vec-items}
 use Rattle.std.proofs.shelf.Lists.{getD-map, getD-default, length-map}
-use Rattle.std.proofs.shelf.Tests.{lt-ltb, le-ltb}
 use Rattle.kripke.specs.Structure.{Kripke, State, Member, answer, size, state, successors}
-use Rattle.kripke.specs.Rounds.{home, place, total}
+use Rattle.kripke.specs.Rounds.{total}
+use Rattle.kripke.specs.Tests.{some}
+use Rattle.kripke.specs.Union.{both}
+use Rattle.kripke.proofs.Unions.{both-first, both-second}
+use native.Mathlib.Nat.{zero-add}
 use Rattle.refine.specs.Rows.{state-of, structure}
-use Rattle.refine.specs.Joint.{asked, base, leads, hits}
+use Rattle.refine.specs.Tests.{leads, hits}
+use Rattle.refine.proofs.Somes.{some-ext, some-map}
 use Rattle.refine.specs.declared.row.Row.{Row}
 
 pub row-state : (start : ℕ) (rows : List Row) (s : ℕ) (r : Row) → s < length rows → r ≡ getD rows s r → state (structure start rows) s ≡ state-of r
@@ -21,39 +25,25 @@ row-state start rows s r l e = getD-map state-of rows s r _ l ∙ ap state-of (s
 pub row-size : (start : ℕ) (rows : List Row) → size (structure start rows) ≡ length rows
 row-size start rows = length-map rows state-of
 
--- A number below the first's size, and one from there on.
-module _ (a b : Kripke) (i : ℕ) where
-  pub home-first : i < size a → home a b i ≡ a
-  home-first l = rw (lt-ltb i (size a) l) refl
+-- What is asked of a numbered state of both structures is asked of its own.
+module _ (a b : Kripke) where
+  again : (i : ℕ) → size a ≤ i → size a + (i - size a) ≡ i
+  again i l = omega arith
 
-  pub place-first : i < size a → place a b i ≡ i
-  place-first l = rw (lt-ltb i (size a) l) refl
+  pub answer-first : (q i : ℕ) → i < size a → answer a i q ≡ answer (both a b) i q
+  answer-first q i l = ap (λ (x : State). getD (x .answers) q false) (sym (both-first a b i l))
 
-  pub base-first : i < size a → base a b i ≡ 0
-  base-first l = rw (lt-ltb i (size a) l) refl
+  pub answer-second : (q i : ℕ) → size a ≤ i → i < total a b → answer b (i - size a) q ≡ answer (both a b) i q
+  answer-second q i l h =
+      ap (λ (x : State). getD (x .answers) q false) (sym (both-second a b (i - size a) (omega arith))) ∙ ap (λ (j : ℕ). answer (both a b) j q) (again i l)
 
-  pub home-second : size a ≤ i → home a b i ≡ b
-  home-second l = rw (le-ltb i (size a) l) refl
+  pub hits-first : (class : List ℕ) (c i : ℕ) → i < size a → leads a 0 class c i ≡ hits (both a b) class c i
+  hits-first class c i l =
+      some-ext _ _ (successors a i) (λ v m. ap (λ (j : ℕ). eqb (getD class j 0) c) (zero-add v))
+      ∙ ap (λ (x : State). some (λ v. eqb (getD class v 0) c) (x .next)) (sym (both-first a b i l))
 
-  pub place-second : size a ≤ i → place a b i ≡ i - size a
-  place-second l = rw (le-ltb i (size a) l) refl
-
-  pub base-second : size a ≤ i → base a b i ≡ size a
-  base-second l = rw (le-ltb i (size a) l) refl
-
-pub asked-first : (a b : Kripke) (q i : ℕ) → i < size a → answer a i q ≡ asked a b q i
-asked-first a b q i l = ap (λ (k : Kripke). answer k i q) (sym (home-first a b i l)) ∙ ap (λ (s : ℕ). answer (home a b i) s q) (sym (place-first a b i l))
-
-pub asked-second : (a b : Kripke) (q i : ℕ) → size a ≤ i → answer b (i - size a) q ≡ asked a b q i
-asked-second a b q i l = ap (λ (k : Kripke). answer k (i - size a) q) (sym (home-second a b i l)) ∙ ap (λ (s : ℕ). answer (home a b i) s q) (sym (place-second a b i l))
-
-pub hits-first : (a b : Kripke) (class : List ℕ) (c i : ℕ) → i < size a → leads a 0 class c i ≡ hits a b class c i
-hits-first a b class c i l =
-    ap (λ (k : Kripke). leads k 0 class c i) (sym (home-first a b i l)) ∙ ap (λ (o : ℕ). leads (home a b i) o class c i) (sym (base-first a b i l))
-    ∙ ap (λ (s : ℕ). leads (home a b i) (base a b i) class c s) (sym (place-first a b i l))
-
-pub hits-second : (a b : Kripke) (class : List ℕ) (c i : ℕ) → size a ≤ i → leads b (size a) class c (i - size a) ≡ hits a b class c i
-hits-second a b class c i l =
-    ap (λ (k : Kripke). leads k (size a) class c (i - size a)) (sym (home-second a b i l))
-    ∙ ap (λ (o : ℕ). leads (home a b i) o class c (i - size a)) (sym (base-second a b i l))
-    ∙ ap (λ (s : ℕ). leads (home a b i) (base a b i) class c s) (sym (place-second a b i l))
+  pub hits-second : (class : List ℕ) (c i : ℕ) → size a ≤ i → i < total a b → leads b (size a) class c (i - size a) ≡ hits (both a b) class c i
+  hits-second class c i l h =
+      sym (some-map (λ v. eqb (getD class v 0) c) (λ v. size a + v) (successors b (i - size a)))
+      ∙ ap (λ (x : State). some (λ v. eqb (getD class v 0) c) (x .next)) (sym (both-second a b (i - size a) (omega arith)))
+      ∙ ap (λ (j : ℕ). hits (both a b) class c j) (again i l)

@@ -13,7 +13,8 @@ use Rattle.std.proofs.shelf.Tests.{ne-eqb}
 use Rattle.kripke.specs.Ctl.{Formula, nesting}
 use Rattle.kripke.specs.Nodes.{made, formulas, formula}
 use Rattle.kripke.specs.declared.node.Node.{Node}
-use Rattle.refine.specs.Classes.{Alike, leaders, bit, sum}
+use Rattle.kripke.specs.Classes.{Alike}
+use Rattle.refine.specs.Classes.{leaders, bit, sum}
 use Rattle.refine.specs.Growth.{Extends, Boolean, Begun}
 use Rattle.refine.specs.Steps.{at, node-formula, class-of, class-formula, Exact, Shallow, moved, Stands, Odd, Keeps, Parted, Few, Scanned, Divided}
 use Rattle.refine.specs.declared.partition.Partition.{Partition}

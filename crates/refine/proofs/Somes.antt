@@ -1,15 +1,15 @@
 -- The test of some member of a list.
 use mathlib.Core.Path.{_≡_, refl, sym, _∙_, ap, subst}
-use mathlib.Core.Bool.{Bool, true, false, _||_, not}
-use mathlib.Core.List.{List, [], _∷_}
-use mathlib.Core.Logic.{_⊎_, inl, inr, _↔_, ⊎-elim}
+use mathlib.Core.Bool.{Bool, true, false, _||_}
+use mathlib.Core.List.{List, [], _∷_, map}
+use mathlib.Core.Logic.{inl, inr}
 use Prim.Native.Nat.{ℕ, zero, suc, _<_, _≤_}
 use native.Mathlib.Omega.{arith}
 use lib.Dec.{T}
 use lib.ListN.{length, getD}
 use Rattle.std.proofs.shelf.Tests.{or-left, or-right, or-from}
 use Rattle.kripke.specs.Structure.{Member}
-use Rattle.refine.specs.Tests.{some}
+use Rattle.kripke.specs.Tests.{some}
 
 pub some-found : (q : ℕ → Bool) (l : List ℕ) (i : ℕ) → i < length l → q (getD l i 0) ≡ true → some q l ≡ true
 some-found q [] i h e = absurd (omega arith)
@@ -29,25 +29,15 @@ pub some-ext : (p q : ℕ → Bool) (l : List ℕ) → ((v : ℕ) → Member v l
 some-ext p q [] h = refl
 some-ext p q (x ∷ l) h = ap (λ b. b || some p l) (h x (inl refl)) ∙ ap (λ b. q x || b) (some-ext p q l (λ v m. h v (inr m)))
 
-pub T-true : (b : Bool) → T b → b ≡ true
-T-true true h = refl
-T-true false h = absurd h
+pub some-map : (q : ℕ → Bool) (f : ℕ → ℕ) (l : List ℕ) → some q (map f l) ≡ some (λ v. q (f v)) l
+some-map q f [] = refl
+some-map q f (x ∷ l) = ap (λ b. q (f x) || b) (some-map q f l)
 
-pub true-T : (b : Bool) → b ≡ true → T b
-true-T b e = subst T (sym e) tt
+pub T-yes : (b : Bool) → T b → b ≡ true
+T-yes true h = refl
+T-yes false h = absurd h
 
 pub bools : (a b : Bool) → (T a → T b) → (T b → T a) → a ≡ b
-bools true b f g = sym (T-true b (f tt))
+bools true b f g = sym (T-yes b (f tt))
 bools false true f g = absurd (g tt)
 bools false false f g = refl
-
-pub or-T : (x y : Bool) → T (x || y) ↔ (T x ⊎ T y)
-or-T true y = (λ h. inl tt, λ h. tt)
-or-T false y = (λ h. inr h, ⊎-elim (λ h. absurd h) (λ h. h))
-
-pub some-T : (q : ℕ → Bool) (l : List ℕ) → T (some q l) ↔ ((x : ℕ) × Member x l × T (q x))
-some-T q [] = (λ h. absurd h, λ h. h .1)
-some-T q (y ∷ l) =
-    ( λ h. ⊎-elim (λ k. (y, inl refl, k)) (λ k. let r = some-T q l .0 k in (r .0, inr (r .1), r .2)) (or-T (q y) (some q l) .0 h)
-    , λ h. or-T (q y) (some q l) .1 (elim (h .1) [ inl e ↦ inl (subst (λ z. T (q z)) e (h .2)) | inr m ↦ inr (some-T q l .1 (h .0, m, h .2)) ])
-    )

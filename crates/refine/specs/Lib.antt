@@ -1,6 +1,5 @@
 pub mod Rows
 pub mod Tests
-pub mod Joint
 pub mod Tables
 pub mod Pairs
 pub mod Growth

@@ -11,7 +11,7 @@ use Rattle.kripke.specs.Ctl.{Formula, nesting}
 use Rattle.kripke.specs.Nodes.{made, formulas, formula}
 use Rattle.kripke.specs.declared.node.Node.{Node}
 use Rattle.refine.specs.Growth.{Extends, Boolean, nextNode}
-use Rattle.refine.specs.Classes.{Alike}
+use Rattle.kripke.specs.Classes.{Alike}
 use Rattle.refine.specs.declared.partition.Partition.{Partition}
 
 abbrev pub at : List Bool → ℕ → Bool

@@ -1,16 +1,14 @@
--- Tests: what is asked of lists and numbers, and of formulas, answered by yes or no.
-use mathlib.Core.Bool.{Bool, true, false, _&&_, _||_, not}
-use mathlib.Core.List.{List, [], _∷_}
-use Prim.Native.Nat.{ℕ}
+-- Tests: a next-only formula at a state, and a successor in a class, answered by yes or no.
+use mathlib.Core.Bool.{Bool, true, false, _&&_, not}
+use mathlib.Core.List.{List}
+use Prim.Native.Nat.{ℕ, _+_}
+use lib.Dec.{eqb}
+use lib.ListN.{getD}
 use Rattle.kripke.specs.Structure.{Kripke, answer, successors}
+use Rattle.kripke.specs.Tests.{some}
 use Rattle.kripke.specs.Ctl.{Formula, truth, question, and, or, EX, AX, EF, AF, EG, AG, EU, AU}
 
--- The test passes at some member.
-abbrev pub some : (ℕ → Bool) → List ℕ → Bool
-some q [] = false
-some q (x ∷ xs) = q x || some q xs
-
--- A next-only formula at a state. Of other formulas nothing is said.
+-- The formula holds at state s. Only next-only formulas are tested: the others fail.
 abbrev pub test : Kripke → Formula → ℕ → Bool
 test k truth s = true
 test k (question i) s = answer k s i
@@ -25,3 +23,10 @@ test k (EG f) s = false
 test k (AG f) s = false
 test k (EU f g) s = false
 test k (AU f g) s = false
+
+-- State s has a successor in class c, where the classes of this structure's states stand in the list from `low` on, or from its start.
+abbrev pub leads : Kripke → ℕ → List ℕ → ℕ → ℕ → Bool
+leads k low class c s = some (λ v. eqb (getD class (low + v) 0) c) (successors k s)
+
+abbrev pub hits : Kripke → List ℕ → ℕ → ℕ → Bool
+hits k class c s = some (λ v. eqb (getD class v 0) c) (successors k s)

@@ -1,9 +1,9 @@
 ghost use Prim.Native.Nat.{ℕ, _<_, _≤_};
 ghost use Rattle.kripke.specs.Rounds.{total};
 ghost use Rattle.kripke.specs.Structure.{answer};
-ghost use Rattle.refine.specs.Joint.{asked, hits, leads};
-ghost use Rattle.refine.specs.Pairs.{first-of, second-of};
+ghost use Rattle.refine.specs.Pairs.{both-of, first-of, second-of};
 ghost use Rattle.refine.specs.Tables.{structure-of};
+ghost use Rattle.refine.specs.Tests.{hits, leads};
 ghost use Rattle.std.specs.Of.Vec.{vec-items};
 ghost use lib.ListN.{getD, length};
 ghost use mathlib.Core.Bool.{false};
@@ -41,7 +41,7 @@ impl Pair {
     fn answer(&self, i: usize, q: usize) -> bool
         requires state { ⌜ i < total (first-of (now self)) (second-of (now self)) ⌝ }
         requires question { ⌜ q < now self .first .questions ⌝ }
-        ensures { λ r. ⌜ r ≡ asked (first-of (now (self .entry))) (second-of (now (self .entry))) q i ⌝ }
+        ensures { λ r. ⌜ r ≡ answer (both-of (now (self .entry))) i q ⌝ }
     {
         let n = self.first.rows.len();
         if i < n { self.first.answer(i, q) } else { self.second.answer(i - n, q) }
@@ -49,7 +49,7 @@ impl Pair {
 
     fn leads(&self, i: usize, class: &[u16; 512], c: u16) -> bool
         requires { ⌜ i < total (first-of (now self)) (second-of (now self)) ⌝ }
-        ensures { λ r. ⌜ r ≡ hits (first-of (now (self .entry))) (second-of (now (self .entry))) (now (class .entry)) c i ⌝ }
+        ensures { λ r. ⌜ r ≡ hits (both-of (now (self .entry))) (now (class .entry)) c i ⌝ }
     {
         let n = self.first.rows.len();
         if i < n { self.first.leads(i, class, 0, c) } else { self.second.leads(i - n, class, n, c) }
@@ -67,7 +67,7 @@ impl Pair {
     pub fn answer_row(&self, q: usize) -> [bool; 512]
         requires { ⌜ q < now self .first .questions ⌝ }
         ensures { λ r. ⌜ ((i : ℕ) → i < total (first-of (now (self .entry))) (second-of (now (self .entry)))
-            → getD r i false ≡ asked (first-of (now (self .entry))) (second-of (now (self .entry))) q i) ⌝ }
+            → getD r i false ≡ answer (both-of (now (self .entry))) i q) ⌝ }
     {
         let mut row = [false; 512];
         for i in 0..self.states() {
@@ -79,7 +79,7 @@ impl Pair {
     // Which states have a successor in class c.
     pub fn successor_row(&self, class: &[u16; 512], c: u16) -> [bool; 512]
         ensures { λ r. ⌜ ((i : ℕ) → i < total (first-of (now (self .entry))) (second-of (now (self .entry)))
-            → getD r i false ≡ hits (first-of (now (self .entry))) (second-of (now (self .entry))) (now (class .entry)) c i) ⌝ }
+            → getD r i false ≡ hits (both-of (now (self .entry))) (now (class .entry)) c i) ⌝ }
     {
         let mut row = [false; 512];
         for i in 0..self.states() {

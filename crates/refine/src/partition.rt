@@ -1,5 +1,6 @@
 ghost use Prim.Native.Nat.{ℕ, _≤_};
-ghost use Rattle.refine.specs.Classes.{Here, Led, Low, leaders};
+ghost use Rattle.kripke.specs.Classes.{Led, Low};
+ghost use Rattle.refine.specs.Classes.{Here, leaders};
 ghost use Rattle.refine.specs.Growth.{Orderly};
 ghost use Rattle.std.specs.Of.Vec.{vec-cap, vec-items};
 ghost use mathlib.Core.Path.{_≡_};
@@ -9,7 +10,7 @@ use kripke::node::Node;
 #[derive(Drop)]
 pub struct Partition {
     pub states: u16,
-    pub questions: u16,
+    pub questions: usize,
     // The class of each state, and the node of each class.
     pub class: [u16; 512],
     pub node: [u16; 512],

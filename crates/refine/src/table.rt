@@ -12,6 +12,7 @@ pub struct Table {
     pub questions: usize,
     pub initial: usize,
     pub rows: Vec<Row>,
+    ghost asks: { questions ≤ 32 },
     ghost some: { 1 ≤ length (vec-items rows) },
     ghost few: { length (vec-items rows) ≤ 256 },
     ghost begins: { initial < length (vec-items rows) },

@@ -27,7 +27,8 @@ ghost-result g c =
     let l : size k ≤ c .loop-s .s = omega (arith, c .loop-s .inv .0) in
     let e : structure i rows ≡ k = structure-is i rows k (c .initial-initial .ensures) (fill-all (k .states) (c .loop-s .s) _ l (c .loop-s .inv .1)) in
     let law : Lawful q k = subst (λ (n : ℕ). Lawful n k) (sym (c .questions-questions .ensures)) (g .M·Model·met .lawful (c .args .model .now)) in
-    (read-some q i rows k e law, (read-few q i rows k e law, (read-begins q i rows k e law, (read-answered q i rows k e law, (read-onward q i rows k e law, (read-inside q i rows k e law, tt))))))
+    let few : q ≤ 32 = subst (λ (n : ℕ). n ≤ 32) (sym (c .questions-questions .ensures)) (g .L·Label·met .few) in
+    (few, (read-some q i rows k e law, (read-few q i rows k e law, (read-begins q i rows k e law, (read-answered q i rows k e law, (read-onward q i rows k e law, (read-inside q i rows k e law, tt)))))))
 
 pub returns : need.returns
 returns g c =

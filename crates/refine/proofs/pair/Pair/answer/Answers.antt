@@ -6,7 +6,7 @@ use borrow.Author.Needs.{needs}
 use Rattle.std.specs.Of.Vec.{vec-items}
 use Rattle.kripke.specs.Structure.{answer, size}
 use Rattle.refine.specs.Pairs.{first-of, second-of}
-use Rattle.refine.proofs.Rowed.{row-size, asked-first, asked-second}
+use Rattle.refine.proofs.Rowed.{row-size, answer-first, answer-second}
 use Rattle.refine.proofs.pair.Pair.answer.Needs as need
 
 pub answer-requires-else-i-n : need.answer-requires-else-i-n
@@ -21,7 +21,7 @@ pub returns-then-i-n : need.returns-then-i-n
 returns-then-i-n c =
     let p = c .args .self .now in
     let n : c .len-n .result ≡ length (vec-items (p .first .rows)) = search needs in
-    c .answer .ensures ∙ asked-first (first-of p) (second-of p) (c .args .q) (c .args .i) (omega (arith, n, c .if-i-n .taken, row-size (p .first .initial) (vec-items (p .first .rows))))
+    c .answer .ensures ∙ answer-first (first-of p) (second-of p) (c .args .q) (c .args .i) (omega (arith, n, c .if-i-n .taken, row-size (p .first .initial) (vec-items (p .first .rows))))
 
 pub returns-else-i-n : need.returns-else-i-n
 returns-else-i-n c =
@@ -29,4 +29,4 @@ returns-else-i-n c =
     let n : c .len-n .result ≡ length (vec-items (p .first .rows)) = search needs in
     let e : c .len-n .result ≡ size (first-of p) = omega (arith, n, row-size (p .first .initial) (vec-items (p .first .rows))) in
     c .answer-else-i-n .ensures ∙ ap (λ (z : ℕ). answer (second-of p) (c .args .i - z) (c .args .q)) e
-    ∙ asked-second (first-of p) (second-of p) (c .args .q) (c .args .i) (omega (arith, e, c .if-i-n .left))
+    ∙ answer-second (first-of p) (second-of p) (c .args .q) (c .args .i) (omega (arith, e, c .if-i-n .left)) (c .pre .state)

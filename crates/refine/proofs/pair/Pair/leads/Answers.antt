@@ -5,7 +5,7 @@ use native.Mathlib.Omega.{arith}
 use borrow.Author.Needs.{needs}
 use Rattle.std.specs.Of.Vec.{vec-items}
 use Rattle.kripke.specs.Structure.{size}
-use Rattle.refine.specs.Joint.{leads}
+use Rattle.refine.specs.Tests.{leads}
 use Rattle.refine.specs.Pairs.{first-of, second-of}
 use Rattle.refine.proofs.Rowed.{row-size, hits-first, hits-second}
 use Rattle.refine.proofs.pair.Pair.leads.Needs as need
@@ -31,4 +31,4 @@ returns-else-i-n c =
     let n : c .len-n .result ≡ length (vec-items (p .first .rows)) = search needs in
     let e : c .len-n .result ≡ size (first-of p) = omega (arith, n, row-size (p .first .initial) (vec-items (p .first .rows))) in
     c .leads-else-i-n .ensures ∙ ap (λ (z : ℕ). leads (second-of p) z (c .args .class .now) (c .args .c) (c .args .i - z)) e
-    ∙ hits-second (first-of p) (second-of p) (c .args .class .now) (c .args .c) (c .args .i) (omega (arith, e, c .if-i-n .left))
+    ∙ hits-second (first-of p) (second-of p) (c .args .class .now) (c .args .c) (c .args .i) (omega (arith, e, c .if-i-n .left)) (c .pre)

@@ -10,7 +10,7 @@ use Rattle.std.specs.Of.Vec.{vec-items}
 use Rattle.std.proofs.shelf.Tests.{eq-eqb, ne-eqb}
 use Rattle.kripke.specs.Structure.{State, Member, successors}
 use Rattle.refine.specs.Tables.{structure-of}
-use Rattle.refine.specs.Tests.{some}
+use Rattle.kripke.specs.Tests.{some}
 use Rattle.refine.proofs.Somes.{some-found, some-none, member-at}
 use Rattle.refine.proofs.Rowed.{row-state}
 use Rattle.refine.proofs.table.Table.leads.Needs as need
