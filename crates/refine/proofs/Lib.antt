@@ -9,3 +9,5 @@ pub mod Step
 pub mod Part
 pub mod Scan
 pub mod Divide
+pub mod Begins
+pub mod Rounding

@@ -37,5 +37,8 @@ module _ (q initial : ℕ) (rows : List Row) (k : Kripke) (is : structure initia
   pub read-onward : (s : ℕ) → s < length rows → 1 ≤ length (successors (structure initial rows) s)
   read-onward s l = lawful .closed .onward s (omega (arith, long))
 
+  pub read-narrow : (s : ℕ) → s < length rows → length (successors (structure initial rows) s) ≤ 16
+  read-narrow s l = lawful .narrow s (omega (arith, long))
+
   pub read-inside : (s t : ℕ) → s < length rows → Member t (successors (structure initial rows) s) → t < length rows
   read-inside s t l m = omega (arith, long, lawful .closed .inside s t (omega (arith, long)) m)

@@ -8,7 +8,9 @@ use lib.ListN.{length, getD}
 use lib.Dec.{eqb}
 use Rattle.std.specs.Of.Vec.{vec-items}
 use Rattle.std.proofs.shelf.Lists.{getD-map, getD-default, length-map}
-use Rattle.kripke.specs.Structure.{Kripke, State, Member, answer, size, state, successors}
+use Rattle.refine.specs.Tables.{structure-of}
+use Rattle.refine.specs.declared.table.Table.{Table}
+use Rattle.kripke.specs.Structure.{Kripke, State, Member, Closed, Lawful, answer, size, state, successors}
 use Rattle.kripke.specs.Rounds.{total}
 use Rattle.kripke.specs.Tests.{some}
 use Rattle.kripke.specs.Union.{both}
@@ -24,6 +26,18 @@ row-state start rows s r l e = getD-map state-of rows s r _ l ∙ ap state-of (s
 
 pub row-size : (start : ℕ) (rows : List Row) → size (structure start rows) ≡ length rows
 row-size start rows = length-map rows state-of
+
+-- The structure of a table is lawful.
+pub table-lawful : (t : Table) → Lawful (t .questions) (structure-of t)
+table-lawful t =
+    let e : size (structure-of t) ≡ length (vec-items (t .rows)) = row-size (t .initial) (vec-items (t .rows)) in
+    record {
+      some = omega (arith, e, t .some); few = omega (arith, e, t .few); begins = omega (arith, e, t .begins);
+      answered = λ s h. t .answered s (omega (arith, e, h));
+      closed = record {
+        onward = λ s h. t .onward s (omega (arith, e, h));
+        inside = λ s v h m. omega (arith, e, t .inside s v (omega (arith, e, h)) m) };
+      narrow = λ s h. t .narrow s (omega (arith, e, h)) }
 
 -- What is asked of a numbered state of both structures is asked of its own.
 module _ (a b : Kripke) where

@@ -5,3 +5,4 @@ pub mod Pairs
 pub mod Growth
 pub mod Classes
 pub mod Steps
+pub mod Rounding

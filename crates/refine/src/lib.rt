@@ -5,6 +5,7 @@ mod growth;
 mod pair;
 mod partition;
 mod reading;
+mod rounds;
 mod row;
 mod split;
 mod table;

@@ -18,5 +18,6 @@ pub struct Table {
     ghost begins: { initial < length (vec-items rows) },
     ghost answered: { (s : ℕ) → s < length (vec-items rows) → length (state (structure initial (vec-items rows)) s .answers) ≡ questions },
     ghost onward: { (s : ℕ) → s < length (vec-items rows) → 1 ≤ length (successors (structure initial (vec-items rows)) s) },
+    ghost narrow: { (s : ℕ) → s < length (vec-items rows) → length (successors (structure initial (vec-items rows)) s) ≤ 16 },
     ghost inside: { (s t : ℕ) → s < length (vec-items rows) → Member t (successors (structure initial (vec-items rows)) s) → t < length (vec-items rows) },
 }

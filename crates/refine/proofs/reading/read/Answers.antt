@@ -8,7 +8,7 @@ use Rattle.kripke.specs.Structure.{Kripke, Lawful, blank, size}
 use Rattle.refine.specs.Rows.{state-of, structure}
 use Rattle.refine.specs.declared.row.Row.{Row}
 use Rattle.refine.proofs.Fills.{fill-more, fill-all, map-push}
-use Rattle.refine.proofs.Readings.{structure-is, read-some, read-few, read-begins, read-answered, read-onward, read-inside}
+use Rattle.refine.proofs.Readings.{structure-is, read-some, read-few, read-begins, read-answered, read-onward, read-narrow, read-inside}
 use Rattle.refine.proofs.reading.read.Needs as need
 
 pub loop-s-again : need.loop-s-again
@@ -28,7 +28,7 @@ ghost-result g c =
     let e : structure i rows ≡ k = structure-is i rows k (c .initial-initial .ensures) (fill-all (k .states) (c .loop-s .s) _ l (c .loop-s .inv .1)) in
     let law : Lawful q k = subst (λ (n : ℕ). Lawful n k) (sym (c .questions-questions .ensures)) (g .M·Model·met .lawful (c .args .model .now)) in
     let few : q ≤ 32 = subst (λ (n : ℕ). n ≤ 32) (sym (c .questions-questions .ensures)) (g .L·Label·met .few) in
-    (few, (read-some q i rows k e law, (read-few q i rows k e law, (read-begins q i rows k e law, (read-answered q i rows k e law, (read-onward q i rows k e law, (read-inside q i rows k e law, tt)))))))
+    (few, (read-some q i rows k e law, (read-few q i rows k e law, (read-begins q i rows k e law, (read-answered q i rows k e law, (read-onward q i rows k e law, (read-narrow q i rows k e law, (read-inside q i rows k e law, tt))))))))
 
 pub returns : need.returns
 returns g c =
