@@ -11,3 +11,4 @@ pub mod Scan
 pub mod Divide
 pub mod Begins
 pub mod Rounding
+pub mod Staging

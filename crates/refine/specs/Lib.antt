@@ -6,3 +6,5 @@ pub mod Growth
 pub mod Classes
 pub mod Steps
 pub mod Rounding
+pub mod Stages
+pub mod Refinements
