@@ -1,0 +1,3 @@
+pub mod Renames
+pub mod Marks
+pub mod Copies

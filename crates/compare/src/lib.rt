@@ -1,0 +1,3 @@
+// The comparison of two models: opening, rounds and readings, and any list of requests.
+
+mod prune;
