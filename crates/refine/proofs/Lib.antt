@@ -12,3 +12,4 @@ pub mod Divide
 pub mod Begins
 pub mod Rounding
 pub mod Staging
+pub mod Truth

@@ -18,7 +18,7 @@ use Rattle.refine.specs.Classes.{leaders, bit, sum}
 use Rattle.refine.specs.Growth.{Extends, Boolean, Begun}
 use Rattle.refine.specs.Steps.{at, node-formula, class-of, class-formula, Exact, Shallow, moved, Stands, Odd, Keeps, Parted, Few, Scanned, Divided}
 use Rattle.refine.specs.declared.partition.Partition.{Partition}
-use Rattle.refine.proofs.Sums.{sum-less, sum-ones, bit-le}
+use Rattle.refine.proofs.Sums.{sum-less, sum-mono, sum-ones, bit-le}
 use Rattle.refine.proofs.Part.{beq-refl}
 use Rattle.refine.proofs.Grown.{extends-refl, extends-trans}
 use Rattle.refine.proofs.Step.{ways, one-before, one-after, new-s0}
@@ -133,3 +133,8 @@ odd-here p q x row i r h l e f = record { state = omega (arith, l, h .keeps .sta
 
 pub few-step : (q r : Partition) (x s : ℕ) (row : List Bool) → Few q → Parted q r x s row → Few r
 few-step q r x s row f d = omega (arith, f, d .count, d .nodes)
+
+-- There are no more classes than states.
+pub count-le : (p : Partition) → p .count ≤ p .states
+unfolding leaders
+count-le p = omega (arith, p .counted, sum-ones (p .states), sum-mono (λ i. bit (eqb (getD (p .class) i 0) i)) (λ i. 1) (p .states) (λ i h. bit-le (eqb (getD (p .class) i 0) i)))
