@@ -44,23 +44,23 @@ module _ (R : ℕ → ℕ → Type 0) (P P′ : ℕ → Type 0) (onP : Alike R P
   always-alike p q rs = (λ h i. onP (p i) (q i) (rs i) .0 (h i), λ h i. onP (p i) (q i) (rs i) .1 (h i))
 
   until-alike : (Q Q′ : ℕ → Type 0) → Alike R Q Q′ → AlikeOn R (Until P Q) (Until P′ Q′)
-  until-alike Q Q′ onQ p q rs =
-      ( λ h. (h .0, onQ (p (h .0)) (q (h .0)) (rs (h .0)) .0 (h .1), λ j l. onP (p j) (q j) (rs j) .0 (h .2 j l))
-      , λ h. (h .0, onQ (p (h .0)) (q (h .0)) (rs (h .0)) .1 (h .1), λ j l. onP (p j) (q j) (rs j) .1 (h .2 j l))
-      )
+  until-alike Q Q′ onQ p q rs = (
+    λ h. (h .0, onQ (p (h .0)) (q (h .0)) (rs (h .0)) .0 (h .1), λ j l. onP (p j) (q j) (rs j) .0 (h .2 j l)),
+    λ h. (h .0, onQ (p (h .0)) (q (h .0)) (rs (h .0)) .1 (h .1), λ j l. onP (p j) (q j) (rs j) .1 (h .2 j l)),
+  )
 
 module _ (a b : Kripke) (R : ℕ → ℕ → Type 0) (z : Bisim a b R) (Φ Ψ : (ℕ → ℕ) → Type 0) (same : AlikeOn R Φ Ψ) where
   some-alike : Alike R (λ s. OnSome a s Φ) (λ t. OnSome b t Ψ)
-  some-alike s t r =
-      ( λ h. let l = lift a b R (z .forth) s (h .0) (h .1) t r in (l .0, l .1, same (h .0) (l .0) (l .2) .0 (h .2))
-      , λ h. let l = lift b a (λ v u. R u v) (λ v u. z .back u v) t (h .0) (h .1) s r in (l .0, l .1, same (l .0) (h .0) (l .2) .1 (h .2))
-      )
+  some-alike s t r = (
+    λ h. let l = lift a b R (z .forth) s (h .0) (h .1) t r in (l .0, l .1, same (h .0) (l .0) (l .2) .0 (h .2)),
+    λ h. let l = lift b a (λ v u. R u v) (λ v u. z .back u v) t (h .0) (h .1) s r in (l .0, l .1, same (l .0) (h .0) (l .2) .1 (h .2)),
+  )
 
   each-alike : Alike R (λ s. OnEach a s Φ) (λ t. OnEach b t Ψ)
-  each-alike s t r =
-      ( λ h q way. let l = lift b a (λ v u. R u v) (λ v u. z .back u v) t q way s r in same (l .0) q (l .2) .0 (h (l .0) (l .1))
-      , λ h p way. let l = lift a b R (z .forth) s p way t r in same p (l .0) (l .2) .1 (h (l .0) (l .1))
-      )
+  each-alike s t r = (
+    λ h q way. let l = lift b a (λ v u. R u v) (λ v u. z .back u v) t q way s r in same (l .0) q (l .2) .0 (h (l .0) (l .1)),
+    λ h p way. let l = lift a b R (z .forth) s p way t r in same p (l .0) (l .2) .1 (h (l .0) (l .1)),
+  )
 
 anything-alike : (R : ℕ → ℕ → Type 0) → Alike R Anything Anything
 anything-alike R s t r = Iff·rfl
@@ -84,8 +84,8 @@ agree a b R z (AU f g) = each-alike a b R z _ _ (until-alike R _ _ (agree a b R 
 -- Related states are the same after any number of rounds.
 pub bisim-same : (a b : Kripke) (R : ℕ → ℕ → Type 0) → Bisim a b R → (k s t : ℕ) → R s t → Same a b k s t
 bisim-same a b R z zero s t r = λ i. z .alike s t i r
-bisim-same a b R z (suc k) s t r =
-    ( bisim-same a b R z k s t r
-    , λ u m. (let (v, m′, r′) = z .forth s t r u m in (v, m′, bisim-same a b R z k u v r′))
-    , λ v m. (let (u, m′, r′) = z .back s t r v m in (u, m′, bisim-same a b R z k u v r′))
-    )
+bisim-same a b R z (suc k) s t r = (
+  bisim-same a b R z k s t r,
+  λ u m. (let (v, m′, r′) = z .forth s t r u m in (v, m′, bisim-same a b R z k u v r′)),
+  λ v m. (let (u, m′, r′) = z .back s t r v m in (u, m′, bisim-same a b R z k u v r′)),
+)

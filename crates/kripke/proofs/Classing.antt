@@ -1,20 +1,19 @@
 -- Lists of class numbers: how they begin, what a round makes of them, when nothing is split, and how many classes they have.
-use mathlib.Core.Path.{_≡_, refl, sym, _∙_, subst}
-use mathlib.Core.Bool.{Bool·beq}
+use mathlib.Core.Path.{_≡_, sym, subst}
 use mathlib.Core.List.{List}
 use mathlib.Core.Logic.{_↔_, Iff·symm, Iff·trans}
-use Prim.Native.Nat.{ℕ, zero, suc, _+_, _-_, _<_, _≤_}
+use Prim.Native.Nat.{ℕ, suc, _+_, _-_, _<_, _≤_}
 use native.Mathlib.Omega.{arith}
-use lib.Dec.{T, eqb}
+use lib.Dec.{eqb}
 use lib.ListN.{getD}
-use Rattle.kripke.specs.Structure.{Kripke, Closed, Member, size}
+use Rattle.kripke.specs.Structure.{Kripke, Closed, size}
 use Rattle.kripke.specs.Rounds.{Matched, Same, Together, ClassOf, Settled, home, place, total}
 use Rattle.kripke.specs.Tests.{together}
 use Rattle.kripke.specs.Union.{both}
 use Rattle.kripke.specs.Classes.{Alike, Numbered, Low, Led, Opened, Refined, Count, Classes}
 use Rattle.kripke.proofs.Reflect.{beq-iff, eqb-T, together-T}
 use Rattle.kripke.proofs.Numbers.{first-to, first-of, second-to, second-of}
-use Rattle.kripke.proofs.Equal.{together-refl, together-sym, together-trans, class-low, class-own, class-same, class-one}
+use Rattle.kripke.proofs.Equal.{together-refl, class-low, class-own, class-same, class-one}
 use Rattle.kripke.proofs.Unions.{both-size, both-closed, both-together}
 use Rattle.kripke.proofs.Growth.{count-map}
 
@@ -22,12 +21,12 @@ use Rattle.kripke.proofs.Growth.{count-map}
 pub numbered-to : (a b : Kripke) (k : ℕ) (cls : List ℕ) → Numbered a b k cls → (i j : ℕ) → i < total a b → j < total a b → Alike cls i j ↔ Together a b k i j
 numbered-to a b k cls n i j hi hj =
     Iff·trans (Iff·symm (eqb-T (getD cls i 0) (getD cls j 0)))
-      (Iff·trans (beq-iff (eqb (getD cls i 0) (getD cls j 0)) (together a b k i j) .0 (n i j hi hj)) (together-T a b k i j))
+    (Iff·trans (beq-iff (eqb (getD cls i 0) (getD cls j 0)) (together a b k i j) .0 (n i j hi hj)) (together-T a b k i j))
 
 pub numbered-of : (a b : Kripke) (k : ℕ) (cls : List ℕ) → ((i j : ℕ) → i < total a b → j < total a b → Alike cls i j ↔ Together a b k i j) → Numbered a b k cls
 numbered-of a b k cls e i j hi hj =
     beq-iff (eqb (getD cls i 0) (getD cls j 0)) (together a b k i j) .1
-      (Iff·trans (eqb-T (getD cls i 0) (getD cls j 0)) (Iff·trans (e i j hi hj) (Iff·symm (together-T a b k i j))))
+    (Iff·trans (eqb-T (getD cls i 0) (getD cls j 0)) (Iff·trans (e i j hi hj) (Iff·symm (together-T a b k i j))))
 
 -- What matches by one relation matches by another that follows from it.
 matched-map : (u : Kripke) → Closed u → (R S : ℕ → ℕ → Type 0) → ((v w : ℕ) → v < size u → w < size u → R v w → S v w)
@@ -62,9 +61,9 @@ module _ (a b : Kripke) (la : Closed a) (lb : Closed b) where
       step i j hi hj =
           let law = both-closed a b la lb in
           let li : i < size (both a b) = omega (arith, both-size a b) in
-          let lj : j < size (both a b) = omega (arith, both-size a b) in
-          ( λ h. (to i j li lj (h .0), matched-map (both a b) law _ _ to i j li lj (h .1), matched-map (both a b) law _ _ (λ w v hw hv e. to v w hv hw e) j i lj li (h .2))
-          , λ h. (of i j li lj (h .0), matched-map (both a b) law _ _ of i j li lj (h .1), matched-map (both a b) law _ _ (λ w v hw hv e. of v w hv hw e) j i lj li (h .2))
+          let lj : j < size (both a b) = omega (arith, both-size a b) in (
+            λ h. (to i j li lj (h .0), matched-map (both a b) law _ _ to i j li lj (h .1), matched-map (both a b) law _ _ (λ w v hw hv e. to v w hv hw e) j i lj li (h .2)),
+            λ h. (of i j li lj (h .0), matched-map (both a b) law _ _ of i j li lj (h .1), matched-map (both a b) law _ _ (λ w v hw hv e. of v w hv hw e) j i lj li (h .2)),
           )
 
 -- A round that changes no class splits nothing.
@@ -85,15 +84,15 @@ module _ (a b : Kripke) (k : ℕ) (cls : List ℕ) where
       let l = low i h in
       record {
         member = numbered-to a b k cls n i (getD cls i 0) h (omega arith) .0 (sym (led i h));
-        least = λ j hj g. omega (arith, low j hj, numbered-to a b k cls n i j h hj .1 g)
+        least = λ j hj g. omega (arith, low j hj, numbered-to a b k cls n i j h hj .1 g);
       }
 
   module _ (each : (i : ℕ) → i < total a b → ClassOf a b k i (getD cls i 0)) where
     pub of-class-numbered : Numbered a b k cls
-    of-class-numbered = numbered-of a b k cls (λ i j hi hj.
-        ( λ e. class-one a b k i j (getD cls j 0) (subst (λ (c : ℕ). ClassOf a b k i c) e (each i hi)) (each j hj)
-        , λ h. class-same a b k i j (getD cls i 0) (getD cls j 0) hi hj (each i hi) (each j hj) h
-        ))
+    of-class-numbered = numbered-of a b k cls (λ i j hi hj. (
+      λ e. class-one a b k i j (getD cls j 0) (subst (λ (c : ℕ). ClassOf a b k i c) e (each i hi)) (each j hj),
+      λ h. class-same a b k i j (getD cls i 0) (getD cls j 0) hi hj (each i hi) (each j hj) h,
+    ))
 
     pub of-class-low : Low (total a b) cls
     of-class-low i h = class-low a b k i (getD cls i 0) h (each i h)
@@ -105,25 +104,25 @@ module _ (a b : Kripke) (k : ℕ) (cls : List ℕ) where
         class-same a b k c c (getD cls c 0) c (omega arith) (omega arith) (each c (omega arith)) (class-own a b k i c (each i h)) (together-refl a b k c)
 
     leads : (i : ℕ) → i < total a b → (getD cls i 0 ≡ i) ↔ ClassOf a b k i i
-    leads i h =
-        ( λ e. subst (λ (c : ℕ). ClassOf a b k i c) e (each i h)
-        , λ z. class-same a b k i i (getD cls i 0) i h h (each i h) z (together-refl a b k i)
-        )
+    leads i h = (
+      λ e. subst (λ (c : ℕ). ClassOf a b k i c) e (each i h),
+      λ z. class-same a b k i i (getD cls i 0) i h h (each i h) z (together-refl a b k i),
+    )
 
     -- The classes are as many as the states that have their own number.
     pub table-classes : (c : ℕ) → Count (λ i. getD cls i 0 ≡ i) (total a b) c ↔ Classes a b k c
-    table-classes c =
-        ( λ x. count-map _ _ (total a b) c x (λ i h. leads i h .0) (λ i h. leads i h .1)
-        , λ x. count-map _ _ (total a b) c x (λ i h. leads i h .1) (λ i h. leads i h .0)
-        )
+    table-classes c = (
+      λ x. count-map _ _ (total a b) c x (λ i h. leads i h .0) (λ i h. leads i h .1),
+      λ x. count-map _ _ (total a b) c x (λ i h. leads i h .1) (λ i h. leads i h .0),
+    )
 
 -- State s of the first and state t of the second are the same when their numbers are together.
 pub cross-together : (a b : Kripke) (k s t : ℕ) → s < size a → Same a b k s t ↔ Together a b k s (size a + t)
 cross-together a b k s t hs =
     let l : size a ≤ size a + t = omega arith in
-    let e : size a + t - size a ≡ t = omega arith in
-    ( λ h. first-to a b (λ x i. Same x (home a b (size a + t)) k i (place a b (size a + t))) s hs
-        (second-to a b (λ y j. Same a y k s j) (size a + t) l (subst (λ (j : ℕ). Same a b k s j) (sym e) h))
-    , λ h. subst (λ (j : ℕ). Same a b k s j) e (second-of a b (λ y j. Same a y k s j) (size a + t) l
-        (first-of a b (λ x i. Same x (home a b (size a + t)) k i (place a b (size a + t))) s hs h))
+    let e : size a + t - size a ≡ t = omega arith in (
+      λ h. first-to a b (λ x i. Same x (home a b (size a + t)) k i (place a b (size a + t))) s hs
+          (second-to a b (λ y j. Same a y k s j) (size a + t) l (subst (λ (j : ℕ). Same a b k s j) (sym e) h)),
+      λ h. subst (λ (j : ℕ). Same a b k s j) e (second-of a b (λ y j. Same a y k s j) (size a + t) l
+          (first-of a b (λ x i. Same x (home a b (size a + t)) k i (place a b (size a + t))) s hs h)),
     )

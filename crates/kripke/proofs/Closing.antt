@@ -1,14 +1,14 @@
 -- Closing: formulas of every size separate what the rounds do, the comparison closes in time, and what it then means.
-use mathlib.Core.Path.{_≡_, refl, sym, subst}
-use mathlib.Core.Logic.{_⊎_, inl, inr, ⊎-elim}
-use Prim.Native.Nat.{ℕ, zero, suc, _+_, _-_, _<_, _≤_}
+use mathlib.Core.Path.{_≡_}
+use mathlib.Core.Logic.{inl, inr, ⊎-elim}
+use Prim.Native.Nat.{ℕ, zero, suc, _<_, _≤_}
 use native.Mathlib.Omega.{arith}
 use Rattle.std.proofs.shelf.Tests.{cases-lt}
 use Rattle.kripke.specs.Structure.{Kripke, Closed, Lawful, size}
-use Rattle.kripke.specs.Ctl.{Formula, Holds, NextOnly, nesting}
-use Rattle.kripke.specs.Rounds.{Same, Separates, Apart, Separated, Together, Inseparable, ClassOf, Settled, ClosedDifferent, ClosedAlike, ClosedAfter, FirstClosed, home, place, total}
+use Rattle.kripke.specs.Ctl.{Formula, NextOnly, nesting}
+use Rattle.kripke.specs.Rounds.{Same, Separates, Apart, Separated, Together, Inseparable, Settled, ClosedAlike, ClosedAfter, home, place, total}
 use Rattle.kripke.specs.Theorems.{ApartByRounds, ModelsApart, ClosesInTime, AlikeAgree, DifferentSeparated, ClassByFormulas}
-use Rattle.kripke.proofs.Either.{Either, either-not, either-and, either-or, surely, below-or, least-of}
+use Rattle.kripke.proofs.Either.{Either, either-not, either-and, either-or, surely, least-of}
 use Rattle.kripke.proofs.Reflect.{same-either}
 use Rattle.kripke.proofs.Sound.{unseparated, least-nesting}
 use Rattle.kripke.proofs.Separate.{same-or-separated, same-when-inseparable}
@@ -38,8 +38,8 @@ models-apart q a b la lb = apart-by-rounds a b (la .closed) (lb .closed) (a .ini
 -- It is decided whether a round splits something, and whether the comparison is closed.
 pub settled-either : (a b : Kripke) (k : ℕ) → Either (Settled a b k)
 settled-either a b k =
-    let (c, l, x) = classes-counted a b k in
-    let (d, l′, y) = classes-counted a b (suc k) in
+    let (c, l, x, _) = classes-counted a b k in
+    let (d, l′, y, _) = classes-counted a b (suc k) in
     ⊎-elim (λ z. inl (z .0)) (λ z. inr (z .0)) (classes-grow a b k c d x y)
 
 alike-either : (a b : Kripke) (k : ℕ) → Either (ClosedAlike a b k)
@@ -74,7 +74,7 @@ different-separated q a b la lb k first different = (found, least)
     deep zero still f o z = omega arith
     deep (suc j) still f o z =
         least-nesting a b (la .closed) (lb .closed) j (a .initial) (b .initial) (la .begins) (lb .begins)
-          (surely (same-either a b j (a .initial) (b .initial)) (λ n. still j (omega arith) (inl n))) f o z
+        (surely (same-either a b j (a .initial) (b .initial)) (λ n. still j (omega arith) (inl n))) f o z
 
     least : (f : Formula) → NextOnly f → Separates a b (a .initial) (b .initial) f → k ≤ nesting f
     least = deep k (first .1)
@@ -82,16 +82,16 @@ different-separated q a b la lb k first different = (found, least)
     found : (f : Formula) × NextOnly f × (nesting f ≡ k) × Separates a b (a .initial) (b .initial) f
     found =
         ⊎-elim (λ h. absurd (different h)) (λ (z : Separated a b k (a .initial) (b .initial)). (z .0, z .1, omega (arith, z .2, least (z .0) (z .1) (z .3)), z .3))
-          (same-or-separated a b (la .closed) (lb .closed) k (a .initial) (b .initial) (la .begins) (lb .begins))
+        (same-or-separated a b (la .closed) (lb .closed) k (a .initial) (b .initial) (la .begins) (lb .begins))
 
 -- The class number, by formulas.
 pub class-by-formulas : ClassByFormulas
-class-by-formulas a b la lb k i c hi hc =
-    ( λ z. (to c hc .0 (z .member), λ j h g. z .least j h (to j h .1 g))
-    , λ z. record { member = to c hc .1 (z .0); least = λ j h g. z .1 j h (to j h .0 g) }
-    )
+class-by-formulas a b la lb k i c hi hc = (
+  λ z. (to c hc .0 (z .member), λ j h g. z .least j h (to j h .1 g)),
+  λ z. record { member = to c hc .1 (z .0); least = λ j h g. z .1 j h (to j h .0 g) },
+)
   where
     to : (j : ℕ) → j < total a b → (Together a b k i j → Inseparable a b k i j) × (Inseparable a b k i j → Together a b k i j)
     to j h =
         same-when-inseparable (home a b i) (home a b j) (home-closed a b la lb i) (home-closed a b la lb j) k (place a b i) (place a b j)
-          (place-inside a b i hi) (place-inside a b j h)
+        (place-inside a b i hi) (place-inside a b j h)

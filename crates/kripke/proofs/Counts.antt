@@ -1,13 +1,12 @@
 -- The number of classes: a round that splits nothing leaves it, and any other makes it grow.
-use mathlib.Core.Path.{_≡_, sym, subst}
-use mathlib.Core.Logic.{_⊎_, inl, inr, ⊎-elim, ⊎-map}
-use Prim.Native.Nat.{ℕ, zero, suc, _-_, _<_, _≤_}
+use mathlib.Core.Path.{_≡_, subst}
+use mathlib.Core.Logic.{⊎-map}
+use Prim.Native.Nat.{ℕ, suc, _<_, _≤_}
 use native.Mathlib.Omega.{arith}
-use Rattle.kripke.specs.Structure.{Kripke, size}
-use Rattle.kripke.specs.Rounds.{Same, Together, ClassOf, Settled, total}
-use Rattle.kripke.specs.Classes.{Count, Classes}
+use Rattle.kripke.specs.Structure.{Kripke}
+use Rattle.kripke.specs.Rounds.{ClassOf, Settled, total}
 use Rattle.kripke.specs.Theorems.{ClassesCounted, ClassesGrow}
-use Rattle.kripke.proofs.Growth.{count-exists, count-some, rests-or-grows, at-rest}
+use Rattle.kripke.proofs.Growth.{count-exists, count-same, count-some, rests-or-grows, at-rest}
 use Rattle.kripke.proofs.Equal.{together-refl, together-sym, together-trans, class-exists, class-own, class-one, class-same, leads-either, leads-on}
 
 module _ (a b : Kripke) where
@@ -28,17 +27,20 @@ module _ (a b : Kripke) where
   settled-unled k st i h z = record { member = together-refl a b k i; least = λ j l g. z .least j l (st i j h l g) }
 
 pub classes-counted : ClassesCounted
-classes-counted a b k = count-exists (λ i. ClassOf a b k i i) (total a b) (leads-either a b k)
+classes-counted a b k =
+    let P = λ (i : ℕ). ClassOf a b k i i in
+    let (c, l, x) = count-exists P (total a b) (leads-either a b k) in
+    (c, l, x, λ d y. count-same P P (total a b) c d x y (λ i h p. p) (λ i h p. p))
 
 pub classes-grow : ClassesGrow
 classes-grow a b k c d x y =
     ⊎-map (λ z. (unled-settled a b k (z .0), z .1)) (λ z. (λ st. z .0 (settled-unled a b k st), z .1))
-      (rests-or-grows (λ j i. ClassOf a b j i i) (total a b) (leads-either a b) (λ j i h. leads-on a b j i) k c d x y)
+    (rests-or-grows (λ j i. ClassOf a b j i i) (total a b) (leads-either a b) (λ j i h. leads-on a b j i) k c d x y)
 
 -- Where there is a state, one of the first rounds, fewer than the states, splits nothing.
 pub settles : (a b : Kripke) → 1 ≤ total a b → (k : ℕ) × (k < total a b) × Settled a b k
 settles a b some =
-    let (c, l, x) = classes-counted a b 0 in
+    let (c, l, x, _) = classes-counted a b 0 in
     let one = count-some (λ i. ClassOf a b 0 i i) (total a b) c x 0 some (record { member = together-refl a b 0 0; least = λ j h g. omega arith }) in
     let (k, l′, r) = at-rest (λ j i. ClassOf a b j i i) (total a b) (leads-either a b) (λ j i h. leads-on a b j i) c x in
     (k, omega arith, unled-settled a b k r)

@@ -83,7 +83,7 @@ least-of P d (suc m) n l x = go (below-or (λ i. P i → ⊥) P n (λ i h. ⊎-e
 pub labels-or : (xs ys : List Bool) → ((i : ℕ) → getD xs i false ≡ getD ys i false) ⊎ ((i : ℕ) × (getD xs i false ≡ getD ys i false → ⊥))
 labels-or xs ys =
     ⊎-elim (λ all. inl (λ i. ⊎-elim (all i) (past i) (cases-lt i (length xs + length ys)))) (λ z. inr (z .0, z .2))
-      (below-or (λ i. getD xs i false ≡ getD ys i false) _ (length xs + length ys) (λ i l. either-equal (getD xs i false) (getD ys i false)))
+    (below-or (λ i. getD xs i false ≡ getD ys i false) _ (length xs + length ys) (λ i l. either-equal (getD xs i false) (getD ys i false)))
   where
     past : (i : ℕ) → length xs + length ys ≤ i → getD xs i false ≡ getD ys i false
     past i l = getD-past xs i false (omega arith) ∙ sym (getD-past ys i false (omega arith))

@@ -1,5 +1,5 @@
 -- Counting, and families of finite sets that only grow: a step that adds something makes the count grow, so they come to rest.
-use mathlib.Core.Path.{_≡_, refl, sym, subst}
+use mathlib.Core.Path.{_≡_, sym, subst}
 use mathlib.Core.Logic.{_⊎_, inl, inr, ⊎-elim}
 use Prim.Native.Nat.{ℕ, zero, suc, _+_, _-_, _<_, _≤_}
 use native.Mathlib.Omega.{arith}
@@ -32,15 +32,15 @@ pub count-less : (P Q : ℕ → Type 0) (n c d : ℕ) → Count P n c → Count 
 count-less P Q zero c d none none f i l new old = omega arith
 count-less P Q (suc n) c d (more _ c′ x p) (more _ d′ y q) f i l new old =
     elim (ℕ-discrete i n) [
-      yes e ↦ absurd (old (subst P (sym e) p))
-    | no e ↦ omega (arith, count-less P Q n c′ d′ x y (λ j h. f j (omega arith)) i (omega arith) new old)
+      | yes e ↦ absurd (old (subst P (sym e) p))
+      | no e ↦ omega (arith, count-less P Q n c′ d′ x y (λ j h. f j (omega arith)) i (omega arith) new old)
     ]
 count-less P Q (suc n) c d (more _ c′ x p) (pass _ _ y q) f i l new old = absurd (q (f n (omega arith) p))
 count-less P Q (suc n) c d (pass _ _ x p) (more _ d′ y q) f i l new old = omega (arith, count-mono P Q n c d′ x y (λ j h. f j (omega arith)))
 count-less P Q (suc n) c d (pass _ _ x p) (pass _ _ y q) f i l new old =
     elim (ℕ-discrete i n) [
-      yes e ↦ absurd (q (subst Q e new))
-    | no e ↦ count-less P Q n c d x y (λ j h. f j (omega arith)) i (omega arith) new old
+      | yes e ↦ absurd (q (subst Q e new))
+      | no e ↦ count-less P Q n c d x y (λ j h. f j (omega arith)) i (omega arith) new old
     ]
 
 pub count-same : (P Q : ℕ → Type 0) (n c d : ℕ) → Count P n c → Count Q n d → ((i : ℕ) → i < n → P i → Q i) → ((i : ℕ) → i < n → Q i → P i) → c ≡ d
@@ -80,9 +80,9 @@ module _ (P : ℕ → ℕ → Type 0) (n : ℕ) (d : (j i : ℕ) → i < n → E
   pub rests-or-grows : (j c e : ℕ) → Count (P j) n c → Count (P (suc j)) n e → (Rests j × (c ≡ e)) ⊎ ((Rests j → ⊥) × (c < e))
   rests-or-grows j c e x y =
       ⊎-elim
-        (λ r. inl (r, count-same (P j) (P (suc j)) n c e x y (up j) r))
-        (λ z. inr (λ r. z .2 .1 (r (z .0) (z .1) (z .2 .0)), count-less (P j) (P (suc j)) n c e x y (up j) (z .0) (z .1) (z .2 .0) (z .2 .1)))
-        (rests-or j)
+      (λ r. inl (r, count-same (P j) (P (suc j)) n c e x y (up j) r))
+      (λ z. inr (λ r. z .2 .1 (r (z .0) (z .1) (z .2 .0)), count-less (P j) (P (suc j)) n c e x y (up j) (z .0) (z .1) (z .2 .0) (z .2 .1)))
+      (rests-or j)
 
   within : (m j c : ℕ) → Count (P j) n c → n ≤ c + m → (i : ℕ) × (i ≤ j + m) × Rests i
   within zero j c x h =

@@ -1,4 +1,5 @@
 pub mod Tellings
+pub mod Orders
 pub mod Tables
 pub mod Walks
 pub mod Either

@@ -1,6 +1,6 @@
 -- Two structures numbered through: what is shown of each state in its own structure is shown of each number.
 use mathlib.Core.Path.{_≡_, refl, sym, subst}
-use mathlib.Core.Bool.{Bool, true, false, cond}
+use mathlib.Core.Bool.{Bool, cond}
 use mathlib.Core.Logic.{⊎-elim}
 use Prim.Native.Nat.{ℕ, suc, _+_, _-_, _<_, _≤_}
 use native.Mathlib.Omega.{arith}
@@ -60,7 +60,7 @@ settled-at a b k settled x y on-x on-y s t hs ht h =
     let (i, li, xi, si) = on-x s hs in
     let (j, lj, yj, tj) = on-y t ht in
     same-at (home a b i) x (home a b j) y (suc k) (place a b i) s (place a b j) t xi yj si tj
-      (settled i j li lj (same-at x (home a b i) y (home a b j) k s (place a b i) t (place a b j) (sym xi) (sym yj) (sym si) (sym tj) h))
+    (settled i j li lj (same-at x (home a b i) y (home a b j) k s (place a b i) t (place a b j) (sym xi) (sym yj) (sym si) (sym tj) h))
 
 -- Once nothing is split, nothing ever is.
 pub settled-on : (a b : Kripke) → Closed a → Closed b → (k : ℕ) → Settled a b k → Settled a b (suc k)
@@ -69,8 +69,8 @@ settled-on a b la lb k settled i j hi hj h =
     let ci = home-closed a b la lb i in
     let cj = home-closed a b la lb j in
     let si = place-inside a b i hi in
-    let sj = place-inside a b j hj in
-    ( h
-    , λ u m. (let (v, m′, r) = h .1 u m in (v, m′, on u v (ci .inside (place a b i) u si m) (cj .inside (place a b j) v sj m′) r))
-    , λ v m. (let (u, m′, r) = h .2 v m in (u, m′, on u v (ci .inside (place a b i) u si m′) (cj .inside (place a b j) v sj m) r))
+    let sj = place-inside a b j hj in (
+      h,
+      λ u m. (let (v, m′, r) = h .1 u m in (v, m′, on u v (ci .inside (place a b i) u si m) (cj .inside (place a b j) v sj m′) r)),
+      λ v m. (let (u, m′, r) = h .2 v m in (u, m′, on u v (ci .inside (place a b i) u si m′) (cj .inside (place a b j) v sj m) r)),
     )

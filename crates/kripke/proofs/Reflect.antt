@@ -46,30 +46,30 @@ eqb-T m n = (λ h. eqb-true m n (T-true (eqb m n) .0 h), λ e. T-true (eqb m n) 
 
 pub every-T : (q : ℕ → Bool) (l : List ℕ) → T (every q l) ↔ ((x : ℕ) → Member x l → T (q x))
 every-T q [] = (λ h x m. absurd m, λ h. tt)
-every-T q (y ∷ l) =
-    ( λ h x m. elim m [ inl e ↦ subst (λ z. T (q z)) (sym e) (and-T (q y) (every q l) .0 h .0) | inr m′ ↦ every-T q l .0 (and-T (q y) (every q l) .0 h .1) x m′ ]
-    , λ h. and-T (q y) (every q l) .1 (h y (inl refl), every-T q l .1 (λ x m. h x (inr m)))
-    )
+every-T q (y ∷ l) = (
+  λ h x m. elim m [ inl e ↦ subst (λ z. T (q z)) (sym e) (and-T (q y) (every q l) .0 h .0) | inr m′ ↦ every-T q l .0 (and-T (q y) (every q l) .0 h .1) x m′ ],
+  λ h. and-T (q y) (every q l) .1 (h y (inl refl), every-T q l .1 (λ x m. h x (inr m))),
+)
 
 pub some-T : (q : ℕ → Bool) (l : List ℕ) → T (some q l) ↔ ((x : ℕ) × Member x l × T (q x))
 some-T q [] = (λ h. absurd h, λ h. h .1)
-some-T q (y ∷ l) =
-    ( λ h. ⊎-elim (λ k. (y, inl refl, k)) (λ k. let r = some-T q l .0 k in (r .0, inr (r .1), r .2)) (or-T (q y) (some q l) .0 h)
-    , λ h. or-T (q y) (some q l) .1 (elim (h .1) [ inl e ↦ inl (subst (λ z. T (q z)) e (h .2)) | inr m ↦ inr (some-T q l .1 (h .0, m, h .2)) ])
-    )
+some-T q (y ∷ l) = (
+  λ h. ⊎-elim (λ k. (y, inl refl, k)) (λ k. let r = some-T q l .0 k in (r .0, inr (r .1), r .2)) (or-T (q y) (some q l) .0 h),
+  λ h. or-T (q y) (some q l) .1 (elim (h .1) [ inl e ↦ inl (subst (λ z. T (q z)) e (h .2)) | inr m ↦ inr (some-T q l .1 (h .0, m, h .2)) ]),
+)
 
 pub below-T : (q : ℕ → Bool) (n : ℕ) → T (below q n) ↔ ((i : ℕ) → i < n → T (q i))
 below-T q zero = (λ h i l. absurd (omega arith), λ h. tt)
-below-T q (suc n) =
-    ( λ h i l. elim (ℕ-discrete i n) [ yes e ↦ subst (λ z. T (q z)) (sym e) (and-T (q n) (below q n) .0 h .0) | no d ↦ below-T q n .0 (and-T (q n) (below q n) .0 h .1) i (omega arith) ]
-    , λ h. and-T (q n) (below q n) .1 (h n (omega arith), below-T q n .1 (λ i l. h i (omega arith)))
-    )
+below-T q (suc n) = (
+  λ h i l. elim (ℕ-discrete i n) [ yes e ↦ subst (λ z. T (q z)) (sym e) (and-T (q n) (below q n) .0 h .0) | no d ↦ below-T q n .0 (and-T (q n) (below q n) .0 h .1) i (omega arith) ],
+  λ h. and-T (q n) (below q n) .1 (h n (omega arith), below-T q n .1 (λ i l. h i (omega arith))),
+)
 
 pub agree-T : (xs ys : List Bool) → T (agree xs ys) ↔ ((i : ℕ) → getD xs i false ≡ getD ys i false)
 agree-T xs ys =
-    let w = below-T (λ i. Bool·beq (getD xs i false) (getD ys i false)) (max (length xs) (length ys)) in
-    ( λ h i. ⊎-elim (λ l. beq-T (getD xs i false) (getD ys i false) .0 (w .0 h i l)) (past i) (cases-lt i (max (length xs) (length ys)))
-    , λ h. w .1 (λ i l. beq-T (getD xs i false) (getD ys i false) .1 (h i))
+    let w = below-T (λ i. Bool·beq (getD xs i false) (getD ys i false)) (max (length xs) (length ys)) in (
+      λ h i. ⊎-elim (λ l. beq-T (getD xs i false) (getD ys i false) .0 (w .0 h i l)) (past i) (cases-lt i (max (length xs) (length ys))),
+      λ h. w .1 (λ i l. beq-T (getD xs i false) (getD ys i false) .1 (h i)),
     )
   where
     past : (i : ℕ) → max (length xs) (length ys) ≤ i → getD xs i false ≡ getD ys i false
@@ -78,10 +78,10 @@ agree-T xs ys =
 -- Each member has a mate, as a test.
 mates-T : (q : ℕ → ℕ → Bool) (R : ℕ → ℕ → Type 0) (l l′ : List ℕ) → ((u v : ℕ) → T (q u v) ↔ R u v)
     → T (every (λ u. some (q u) l′) l) ↔ ((u : ℕ) → Member u l → (v : ℕ) × Member v l′ × R u v)
-mates-T q R l l′ e =
-    ( λ h u m. let r = some-T (q u) l′ .0 (every-T (λ u. some (q u) l′) l .0 h u m) in (r .0, r .1, e u (r .0) .0 (r .2))
-    , λ h. every-T (λ u. some (q u) l′) l .1 (λ u m. let r = h u m in some-T (q u) l′ .1 (r .0, r .1, e u (r .0) .1 (r .2)))
-    )
+mates-T q R l l′ e = (
+  λ h u m. let r = some-T (q u) l′ .0 (every-T (λ u. some (q u) l′) l .0 h u m) in (r .0, r .1, e u (r .0) .0 (r .2)),
+  λ h. every-T (λ u. some (q u) l′) l .1 (λ u m. let r = h u m in some-T (q u) l′ .1 (r .0, r .1, e u (r .0) .1 (r .2))),
+)
 
 pub same-T : TestReflects
 unfolding same
@@ -89,9 +89,9 @@ same-T a b zero s t = agree-T (state a s .answers) (state b t .answers)
 same-T a b (suc k) s t =
     let x = same-T a b k s t in
     let y = mates-T (λ u v. same a b k u v) (λ u v. Same a b k u v) (successors a s) (successors b t) (λ u v. same-T a b k u v) in
-    let z = mates-T (λ v u. same a b k u v) (λ v u. Same a b k u v) (successors b t) (successors a s) (λ v u. same-T a b k u v) in
-    ( λ h. let p = and-T _ _ .0 h in let q = and-T _ _ .0 (p .1) in (x .0 (p .0), y .0 (q .0), z .0 (q .1))
-    , λ h. and-T _ _ .1 (x .1 (h .0), and-T _ _ .1 (y .1 (h .1), z .1 (h .2)))
+    let z = mates-T (λ v u. same a b k u v) (λ v u. Same a b k u v) (successors b t) (successors a s) (λ v u. same-T a b k u v) in (
+      λ h. let p = and-T _ _ .0 h in let q = and-T _ _ .0 (p .1) in (x .0 (p .0), y .0 (q .0), z .0 (q .1)),
+      λ h. and-T _ _ .1 (x .1 (h .0), and-T _ _ .1 (y .1 (h .1), z .1 (h .2))),
     )
 
 pub together-T : (a b : Kripke) (k i j : ℕ) → T (together a b k i j) ↔ Together a b k i j
@@ -109,8 +109,8 @@ pub settled-T : (a b : Kripke) (k : ℕ) → T (settled a b k) ↔ Settled a b k
 unfolding settled
 settled-T a b k =
     let row = λ (i : ℕ). below-T (λ j. not (together a b k i j) || together a b (suc k) i j) (total a b) in
-    let all = below-T (λ i. below (λ j. not (together a b k i j) || together a b (suc k) i j) (total a b)) (total a b) in
-    ( λ h i j hi hj t. together-T a b (suc k) i j .0 (implied-T (together a b k i j) (together a b (suc k) i j) .0 (row i .0 (all .0 h i hi) j hj) (together-T a b k i j .1 t))
-    , λ h. all .1 (λ i hi. row i .1 (λ j hj. implied-T (together a b k i j) (together a b (suc k) i j) .1
-        (λ t. together-T a b (suc k) i j .1 (h i j hi hj (together-T a b k i j .0 t)))))
+    let all = below-T (λ i. below (λ j. not (together a b k i j) || together a b (suc k) i j) (total a b)) (total a b) in (
+      λ h i j hi hj t. together-T a b (suc k) i j .0 (implied-T (together a b k i j) (together a b (suc k) i j) .0 (row i .0 (all .0 h i hi) j hj) (together-T a b k i j .1 t)),
+      λ h. all .1 (λ i hi. row i .1 (λ j hj. implied-T (together a b k i j) (together a b (suc k) i j) .1
+          (λ t. together-T a b (suc k) i j .1 (h i j hi hj (together-T a b k i j .0 t))))),
     )

@@ -9,7 +9,7 @@ use Rattle.std.proofs.shelf.Tests.{both-ways}
 use Rattle.kripke.specs.Structure.{Kripke, Closed, Member, answer, size, state, successors}
 use Rattle.kripke.specs.Ctl.{Formula, truth, question, and, EX}
 use Rattle.kripke.specs.Ctl.{Holds, NextOnly, nesting}
-use Rattle.kripke.specs.Rounds.{Matched, Same, Separates, Separated}
+use Rattle.kripke.specs.Rounds.{Matched, Same, Separated}
 use Rattle.kripke.specs.Theorems.{SameOrSeparated, SameWhenInseparable}
 use Rattle.kripke.proofs.Walks.{through, second}
 use Rattle.kripke.proofs.Either.{mated-or, labels-or}
@@ -49,14 +49,14 @@ refute : (a b : Kripke) (k u : ℕ) (l : List ℕ) → ((v : ℕ) → Member v l
 refute a b k u [] told = (truth, record { plain = tt; shallow = omega arith; here = tt; nowhere = λ v m h. absurd m })
 refute a b k u (x ∷ l) told =
     let (f, z) = told x (inl refl) in
-    let (g, r) = refute a b k u l (λ v m. told v (inr m)) in
-    ( and f g
-    , record {
+    let (g, r) = refute a b k u l (λ v m. told v (inr m)) in (
+      and f g,
+      record {
         plain = (z .plain, r .plain);
         shallow = omega arith;
         here = (z .here, r .here);
-        nowhere = λ v m h. elim m [ inl e ↦ z .notThere (subst (λ y. Holds b f y) e (h .0)) | inr m′ ↦ r .nowhere v m′ (h .1) ]
-      }
+        nowhere = λ v m h. elim m [ inl e ↦ z .notThere (subst (λ y. Holds b f y) e (h .0)) | inr m′ ↦ r .nowhere v m′ (h .1) ];
+      },
     )
 
 -- A successor of s that no successor of t matches: it is told from all of them by one formula, under EX.
@@ -64,14 +64,14 @@ unmatched : (a b : Kripke) → Closed a → (k s t u : ℕ) → s < size a → M
     → ((v : ℕ) → Member v (successors b t) → Told a b k u v) → Told a b (suc k) s t
 unmatched a b la k s t u hs m told =
     let (f, r) = refute a b k u (successors b t) told in
-    let (p, way, e) = through a la s u hs m in
-    ( EX f
-    , record {
+    let (p, way, e) = through a la s u hs m in (
+      EX f,
+      record {
         plain = r .plain;
         shallow = omega arith;
         here = (p, way, subst (λ y. Holds a f y) (sym e) (r .here));
-        notThere = λ x. r .nowhere (x .0 1) (second b t (x .0) (x .1)) (x .2)
-      }
+        notThere = λ x. r .nowhere (x .0 1) (second b t (x .0) (x .1)) (x .2);
+      },
     )
 
 -- Labels that differ are told apart by a question or its negation.
@@ -89,8 +89,8 @@ module _ (a b : Kripke) (la : Closed a) (lb : Closed b) where
   decide zero s t hs ht = ⊎-elim inl (λ z. inr (asked a b s t (z .0) (z .1))) (labels-or (state a s .answers) (state b t .answers))
   decide (suc k) s t hs ht =
       go (decide k s t hs ht)
-        (mated-or _ _ (successors a s) (successors b t) (λ u v m m′. decide k u v (la .inside s u hs m) (lb .inside t v ht m′)))
-        (mated-or _ _ (successors b t) (successors a s) (λ v u m′ m. decide k u v (la .inside s u hs m) (lb .inside t v ht m′)))
+      (mated-or _ _ (successors a s) (successors b t) (λ u v m m′. decide k u v (la .inside s u hs m) (lb .inside t v ht m′)))
+      (mated-or _ _ (successors b t) (successors a s) (λ v u m′ m. decide k u v (la .inside s u hs m) (lb .inside t v ht m′)))
     where
       go : Same a b k s t ⊎ Told a b k s t
           → Matched (λ u v. Same a b k u v) a b s t ⊎ ((u : ℕ) × Member u (successors a s) × ((v : ℕ) → Member v (successors b t) → Told a b k u v))

@@ -1,10 +1,10 @@
 -- Rounds and formulas, one way: states that are the same after k rounds agree on every next-only formula of nesting k or less.
 use mathlib.Core.Path.{_≡_, sym, _∙_, subst}
-use mathlib.Core.Logic.{inl, inr, _↔_, Iff·not, Iff·and, Iff·rfl, ⊎-elim}
+use mathlib.Core.Logic.{inl, inr, _↔_, Iff·not, Iff·and, Iff·rfl}
 use Prim.Native.Nat.{ℕ, zero, suc, _<_, _≤_}
 use native.Mathlib.Omega.{arith}
 use native.Mathlib.Decide.{decLe}
-use Rattle.kripke.specs.Structure.{Kripke, Closed, Member, answer, size, successors}
+use Rattle.kripke.specs.Structure.{Kripke, Closed, answer, size}
 use Rattle.kripke.specs.Ctl.{Formula, truth, question, and, or, EX, AX, EF, AF, EG, AG, EU, AU}
 use Rattle.kripke.specs.Ctl.{Holds, NextOnly, nesting}
 use Rattle.kripke.specs.Rounds.{Matched, Same, Separates, Separated}
@@ -39,10 +39,10 @@ module _ (a b : Kripke) (la : Closed a) (lb : Closed b) where
   sound (and f g) k s t hs ht h o n = Iff·and (sound f k s t hs ht h (o .0) (omega arith)) (sound g k s t hs ht h (o .1) (omega arith))
   sound (or f g) k s t hs ht h o n = absurd o
   sound (EX f) zero s t hs ht h o n = absurd (omega arith)
-  sound (EX f) (suc k) s t hs ht h o n =
-      ( carries a b la lb _ f s t hs ht (h .1) (λ u v hu hv r. sound f k u v hu hv r o (omega arith) .0)
-      , carries b a lb la _ f t s ht hs (h .2) (λ v u hv hu r. sound f k u v hu hv r o (omega arith) .1)
-      )
+  sound (EX f) (suc k) s t hs ht h o n = (
+    carries a b la lb _ f s t hs ht (h .1) (λ u v hu hv r. sound f k u v hu hv r o (omega arith) .0),
+    carries b a lb la _ f t s ht hs (h .2) (λ v u hv hu r. sound f k u v hu hv r o (omega arith) .1),
+  )
   sound (AX f) k s t hs ht h o n = absurd o
   sound (EF f) k s t hs ht h o n = absurd o
   sound (AF f) k s t hs ht h o n = absurd o

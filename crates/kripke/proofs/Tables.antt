@@ -64,8 +64,8 @@ unfolding grown
 grown-at q fs [] j i e l h = absurd (omega arith)
 grown-at q fs (n ∷ ns) zero i e l h =
     grown-keeps (fs ++ made fs n ∷ []) ns i (omega (arith, length-push fs (made fs n))) ∙ (getD-push fs (made fs n) truth i (omega arith)
-      ∙ applied-same (operator n) q i (n .a) (n .b) (h .1) fs (grown (fs ++ made fs n ∷ []) ns)
-          (λ m b. sym (grown-keeps (fs ++ made fs n ∷ []) ns m (omega (arith, length-push fs (made fs n))) ∙ getD-append-left fs (made fs n ∷ []) truth m (omega arith))))
+    ∙ applied-same (operator n) q i (n .a) (n .b) (h .1) fs (grown (fs ++ made fs n ∷ []) ns)
+    (λ m b. sym (grown-keeps (fs ++ made fs n ∷ []) ns m (omega (arith, length-push fs (made fs n))) ∙ getD-append-left fs (made fs n ∷ []) truth m (omega arith))))
 grown-at q fs (n ∷ ns) (suc j) i e l h = grown-at q (fs ++ made fs n ∷ []) ns j i (omega (arith, length-push fs (made fs n))) (omega arith) h
 
 -- In a well-formed table the formula of node i is its operator on the formulas of the nodes that it names.
@@ -77,11 +77,11 @@ formula-at q ns w i l = grown-at q [] ns i i (omega arith) l (w i l)
 pub well-formed-push : (q : ℕ) (ns : List Node) (n : Node) → WellFormed q ns → LawfulNode q (length ns) n → WellFormed q (ns ++ n ∷ [])
 well-formed-push q ns n w h i l =
     ⊎-elim
-      (λ (b : i < length ns). rw (getD-append-left ns (n ∷ []) blank i b) (w i b))
-      (λ (b : length ns ≤ i).
-        let e : length ns ≡ i = omega (arith, length-push ns n) in
-        rw (getD-push ns n blank i e, ← e) h)
-      (cases-lt i (length ns))
+    (λ (b : i < length ns). rw (getD-append-left ns (n ∷ []) blank i b) (w i b))
+    (λ (b : length ns ≤ i).
+    let e : length ns ≡ i = omega (arith, length-push ns n) in
+    rw (getD-push ns n blank i e, ← e) h)
+    (cases-lt i (length ns))
 
 pub well-formed-front : (q : ℕ) (ns ms : List Node) → WellFormed q (ns ++ ms) → WellFormed q ns
 well-formed-front q ns ms w i l = rw (getD-append-left ns ms blank i l) at (w i (omega (arith, length-append ns ms)))

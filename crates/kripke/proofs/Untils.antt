@@ -1,7 +1,7 @@
 -- E[P U Q] and A[P U Q] are decided where P and Q are: the states from which one can, or must, come to Q by way of P grow until they rest.
-use mathlib.Core.Path.{_≡_, refl, sym, subst}
+use mathlib.Core.Path.{refl, sym, subst}
 use mathlib.Core.Logic.{_⊎_, inl, inr, ⊎-elim}
-use Prim.Native.Nat.{ℕ, zero, suc, _<_, _≤_}
+use Prim.Native.Nat.{ℕ, zero, suc, _<_}
 use native.Mathlib.Omega.{arith}
 use Rattle.kripke.specs.Structure.{Kripke, Closed, Member, size, successors}
 use Rattle.kripke.specs.Ctl.{Path, Until, OnSome, OnEach}
@@ -16,7 +16,7 @@ DecidedAt k P = (s : ℕ) → s < size k → Either (P s)
 pub some-decided : (k : Kripke) → Closed k → (P : ℕ → Type 0) → DecidedAt k P → DecidedAt k (λ s. (u : ℕ) × Member u (successors k s) × P u)
 some-decided k law P d s h =
     ⊎-elim (λ all. inr (λ z. all (z .0) (z .1) (z .2))) inl
-      (each-or-some (λ u. P u → ⊥) P (successors k s) (λ u m. ⊎-elim inr inl (d u (law .inside s u h m))))
+    (each-or-some (λ u. P u → ⊥) P (successors k s) (λ u m. ⊎-elim inr inl (d u (law .inside s u h m))))
 
 pub every-decided : (k : Kripke) → Closed k → (P : ℕ → Type 0) → DecidedAt k P → DecidedAt k (λ s. (u : ℕ) → Member u (successors k s) → P u)
 every-decided k law P d s h =
@@ -92,7 +92,7 @@ module _ (k : Kripke) (law : Closed k) (P Q : ℕ → Type 0) (dP : DecidedAt k 
   can-out j rest (suc n) s h out p way q before =
       let m = second k s p way in
       can-out j rest n (p 1) (law .inside s (p 1) h m) (λ c. out (rest s h (inr (subst P (way .starts) (before 0 (omega arith)), (p 1, m, c)))))
-        (λ i. p (suc i)) (tail-path k s p way) q (λ i l. before (suc i) (omega arith))
+      (λ i. p (suc i)) (tail-path k s p way) q (λ i l. before (suc i) (omega arith))
 
   pub until-some : (s : ℕ) → s < size k → OnSome k s (Until P Q) ⊎ ((p : ℕ → ℕ) → Path k s p → Until P Q p → ⊥)
   until-some s h =
@@ -105,7 +105,7 @@ module _ (k : Kripke) (law : Closed k) (P Q : ℕ → Type 0) (dP : DecidedAt k 
         → (u : ℕ) × Member u (successors k s) × (((v : ℕ) → Member v (successors k s) → Must j v) ⊎ (Must j u → ⊥))
     onward s h =
         ⊎-elim (λ all. (first (successors k s), first-member (successors k s) (law .onward s h), inl all)) (λ z. (z .0, z .1, inr (z .2)))
-          (each-or-some (Must j) _ (successors k s) (λ v m. must-decided j v (law .inside s v h m)))
+        (each-or-some (Must j) _ (successors k s) (λ v m. must-decided j v (law .inside s v h m)))
 
     run : (s : ℕ) → s < size k → ℕ → ℕ
     run s h zero = s
@@ -125,9 +125,9 @@ module _ (k : Kripke) (law : Closed k) (P Q : ℕ → Type 0) (dP : DecidedAt k 
     must-out zero s h out q before = out (must-from j s q)
     must-out (suc n) s h out q before =
         ⊎-elim
-          (λ all. out (rest s h (inr (before 0 (omega arith), all))))
-          (λ out′. must-out n (onward s h .0) (law .inside s (onward s h .0) h (onward s h .1)) out′ q (λ i l. before (suc i) (omega arith)))
-          (onward s h .2)
+        (λ all. out (rest s h (inr (before 0 (omega arith), all))))
+        (λ out′. must-out n (onward s h .0) (law .inside s (onward s h .0) h (onward s h .1)) out′ q (λ i l. before (suc i) (omega arith)))
+        (onward s h .2)
 
   pub until-each : (s : ℕ) → s < size k → OnEach k s (Until P Q) ⊎ OnSome k s (λ p. Until P Q p → ⊥)
   until-each s h =

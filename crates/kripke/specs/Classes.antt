@@ -7,7 +7,7 @@ use Prim.Native.Nat.{ℕ, suc, _<_, _≤_}
 use lib.Dec.{T, eqb}
 use lib.ListN.{getD}
 use Rattle.kripke.specs.Structure.{Kripke, answer}
-use Rattle.kripke.specs.Rounds.{Matched, Together, ClassOf, total}
+use Rattle.kripke.specs.Rounds.{Matched, ClassOf, total}
 use Rattle.kripke.specs.Tests.{together}
 use Rattle.kripke.specs.Union.{both}
 

@@ -28,8 +28,8 @@ unfoldable pub same : Kripke → Kripke → ℕ → ℕ → ℕ → Bool
 same a b zero s t = agree (state a s .answers) (state b t .answers)
 same a b (suc k) s t =
     same a b k s t
-      && (every (λ u. some (λ v. same a b k u v) (successors b t)) (successors a s)
-      && every (λ v. some (λ u. same a b k u v) (successors a s)) (successors b t))
+    && (every (λ u. some (λ v. same a b k u v) (successors b t)) (successors a s)
+    && every (λ v. some (λ u. same a b k u v) (successors a s)) (successors b t))
 
 abbrev pub together : Kripke → Kripke → ℕ → ℕ → ℕ → Bool
 together a b k i j = same (home a b i) (home a b j) k (place a b i) (place a b j)

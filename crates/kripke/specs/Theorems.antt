@@ -59,10 +59,11 @@ DifferentSeparated = (q : ℕ) (a b : Kripke) → Lawful q a → Lawful q b → 
     → ((f : Formula) × NextOnly f × (nesting f ≡ k) × Separates a b (a .initial) (b .initial) f)
     × ((f : Formula) → NextOnly f → Separates a b (a .initial) (b .initial) f → k ≤ nesting f)
 
--- After any number of rounds there is a number of classes, at most that of the states; a round that splits nothing leaves it, and any other makes it grow.
+-- After any number of rounds there is one number of classes, at most that of the states;
 abbrev pub ClassesCounted : Type 0
-ClassesCounted = (a b : Kripke) (k : ℕ) → (c : ℕ) × (c ≤ total a b) × Classes a b k c
+ClassesCounted = (a b : Kripke) (k : ℕ) → (c : ℕ) × (c ≤ total a b) × Classes a b k c × ((d : ℕ) → Classes a b k d → c ≡ d)
 
+-- a round that splits nothing leaves it, and any other makes it grow.
 abbrev pub ClassesGrow : Type 0
 ClassesGrow = (a b : Kripke) (k c d : ℕ) → Classes a b k c → Classes a b (suc k) d
     → (Settled a b k × (c ≡ d)) ⊎ ((Settled a b k → ⊥) × (c < d))

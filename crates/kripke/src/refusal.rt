@@ -1,7 +1,10 @@
+ghost use Rattle.kripke.specs.Refusals.{layerOf, numberOf, toldAs};
+ghost use Rattle.std.specs.declared.option.Option.the-variants.{Some};
 ghost use Rattle.kripke.specs.declared.refusal.Error.the-variants.{Memory, Refused};
 ghost use mathlib.Core.Path.{_≡_};
 use std::alloc::AllocError;
 use std::alloc::Refused;
+use std::fmt;
 
 // Why a call is refused, by its number.
 #[derive(Clone, Copy, PartialEq, Eq, Debug)]
@@ -47,6 +50,33 @@ pub struct Refusal {
     pub cause: Cause,
     pub layer: Layer,
     pub place: usize,
+}
+
+impl Refusal {
+    // The number of the cause.
+    pub fn number(&self) -> u8
+        ensures { λ r. ⌜ r ≡ numberOf (now (self .entry) .cause) ⌝ }
+    {
+        self.cause as u8
+    }
+
+    // The number of the layer.
+    pub fn layer_number(&self) -> u8
+        ensures { λ r. ⌜ r ≡ layerOf (now (self .entry) .layer) ⌝ }
+    {
+        self.layer as u8
+    }
+}
+
+pub impl fmt::Display for Refusal as RefusalDisplay {
+    ghost shown = { λ e. Some (toldAs e) };
+
+    fn fmt<W: fmt::Write>(&self, f: &mut fmt::Formatter<W>) -> fmt::Result {
+        let number = self.number();
+        let layer = self.layer_number();
+        let place = self.place;
+        write!(f, "refused {number} {layer} {place}")
+    }
 }
 
 // How a call that allocates can fail.

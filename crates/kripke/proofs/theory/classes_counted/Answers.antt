@@ -1,3 +1,4 @@
+-- The theorem is proved in proofs/Counts.antt.
 use Rattle.kripke.proofs.Counts.{classes-counted}
 use Rattle.kripke.proofs.theory.classes_counted.Needs as need
 

@@ -1,3 +1,4 @@
+-- The theorem is proved in proofs/Counts.antt.
 use Rattle.kripke.proofs.Counts.{classes-grow}
 use Rattle.kripke.proofs.theory.classes_grow.Needs as need
 

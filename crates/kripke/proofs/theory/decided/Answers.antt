@@ -1,3 +1,4 @@
+-- The theorem is proved in proofs/Decide.antt.
 use Rattle.kripke.proofs.Decide.{decided}
 use Rattle.kripke.proofs.theory.decided.Needs as need
 
