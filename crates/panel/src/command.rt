@@ -1,4 +1,5 @@
 // The command line.
+use crate::difference;
 use crate::failure::Failure;
 use crate::failure::FailureFromAlloc;
 use crate::failure::FailureFromIo;
@@ -115,6 +116,12 @@ fn on_rules(
     task::on_rules(heap, bits, initial, rules.as_slice(), task, text)
 }
 
+fn compare_files(rt: &LibcRuntime, old: &str, new: &str) -> Result<String, Failure> {
+    let old = fs::read(rt, old)?;
+    let new = fs::read(rt, new)?;
+    difference::compare(rt.alloc(), old.as_slice(), new.as_slice())
+}
+
 fn on_file(rt: &LibcRuntime, path: &str, task: Task, text: &str) -> Result<String, Failure> {
     let image = fs::read(rt, path)?;
     task::on_image(rt.alloc(), image.as_slice(), task, text)
@@ -125,9 +132,11 @@ pub fn run(rt: &LibcRuntime, words: &[String]) -> Result<String, Failure> {
     let heap = rt.alloc();
     match (word(words, 1), word(words, 2), words.len()) {
         ("--help", _, _) => told(heap, USAGE),
+        ("compare", "--help", _) => told(heap, COMPARE),
         ("check", "--help", _) => told(heap, CHECK),
         ("show", "--help", _) => told(heap, SHOW),
         ("rules", "--help", _) => told(heap, RULES),
+        ("compare", old, 4) => compare_files(rt, old, word(words, 3)),
         ("check", path, 4) => on_file(rt, path, Task::Check, word(words, 3)),
         ("show", "--dot", 4) => on_file(rt, word(words, 3), Task::Graph, ""),
         ("show", path, 3) => on_file(rt, path, Task::List, ""),

@@ -5,9 +5,11 @@ use std::io;
 
 mod command;
 mod condition;
+mod difference;
 mod failure;
 mod listing;
 mod task;
+mod trial;
 mod words;
 
 fn main(rt: LibcRuntime) -> io::Result<()> {
