@@ -5,3 +5,4 @@ pub mod Levels
 pub mod Rulings
 pub mod Separates
 pub mod Lists
+pub mod Steadily

@@ -1,11 +1,14 @@
 -- The law of a comparison over any list of requests.
+use mathlib.Core.Path.{_≡_}
 use mathlib.Core.List.{List, [], _∷_, _++_}
+use mathlib.Core.Logic.{_⊎_}
 use Prim.Native.Nat.{ℕ, suc, _≤_}
 use Rattle.std.specs.Of.Vec.{vec-items}
+use Rattle.std.specs.shelf.Lists.{All}
 use Rattle.std.specs.declared.vec.Vec.{Vec}
 use Rattle.std.specs.declared.alloc.Global.{Global}
 use Rattle.kripke.specs.Structure.{Kripke}
-use Rattle.kripke.specs.Rounds.{total}
+use Rattle.kripke.specs.Rounds.{total, ClosedAfter}
 use Rattle.kripke.specs.Classes.{Classes}
 use Rattle.kripke.specs.Refusals.{Clean, First}
 use Rattle.kripke.specs.declared.node.Node.{Node}
@@ -14,6 +17,8 @@ use Rattle.kripke.specs.declared.refusal.Error.the-variants.{Refused, Memory}
 use Rattle.kripke.specs.declared.refusal.Layer.the-variants.{Comparison}
 use Rattle.compare.specs.Breaches.{RoundBreach, ClassBreach, VerdictBreach, FormulaBreach}
 use Rattle.compare.specs.Answers.{ClassNumber, Decides, Separating}
+use Rattle.compare.specs.Calls.{first, second, rounds, table}
+use Rattle.compare.specs.declared.comparison.Comparison.{Comparison as Compared}
 use Rattle.compare.specs.declared.verdict.Verdict.{Verdict}
 use Rattle.compare.specs.declared.requests.Request.{Request}
 use Rattle.compare.specs.declared.requests.Request.the-variants as request
@@ -41,3 +46,21 @@ pub data Run (a b : Kripke) (q k : ℕ) : List Request → List Answer → ℕ �
   none : Run a b q k [] [] k
   more : {rs : List Request} {ss : List Answer} {n m : ℕ} → Run a b q k rs ss n → (r : Request) (s : Answer) → Obeys a b q n r s m
       → Run a b q k (rs ++ r ∷ []) (ss ++ s ∷ []) m
+
+-- A formula that is answered is this table.
+abbrev pub Tells : List Node → Answer → Type 0
+Tells ns (answer.Round n) = Unit {0}
+Tells ns (answer.Class c) = Unit {0}
+Tells ns (answer.Verdict v) = Unit {0}
+Tells ns (answer.Formula v) = vec-items v ≡ ns
+Tells ns (answer.Failed e) = Unit {0}
+
+-- A closed comparison c stays as it is; and every formula among the answers is the one that d, the comparison then, still keeps: asked again, it is the same.
+pub record Steady (c : Compared) (ss : List Answer) (d : Compared) : Type 0 where
+  pub still : ClosedAfter (first c) (second c) (rounds c) → d ≡ c
+  pub tells : All (Tells (table d)) ss
+
+-- The same of one answer or more, with what a loop over them needs besides: no formula was told yet, or the comparison is closed.
+pub record Kept (c : Compared) (ss : List Answer) (d : Compared) : Type 0 where
+  pub steady : Steady c ss d
+  pub formed : ((ns : List Node) → All (Tells ns) ss) ⊎ ClosedAfter (first d) (second d) (rounds d)

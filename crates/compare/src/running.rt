@@ -1,7 +1,8 @@
 ghost use Rattle.compare.specs.Calls.{Same, first, questions, rounds, second};
-ghost use Rattle.compare.specs.Law.{Obeys, Run};
+ghost use Rattle.compare.specs.Law.{Kept, Obeys, Run, Steady};
 ghost use Rattle.std.specs.Of.Vec.{vec-items};
 ghost use Rattle.std.specs.Vec.{made, refused};
+ghost use mathlib.Core.List.{[], _∷_};
 ghost use mathlib.Core.Path.{_≡_};
 use crate::comparison::Comparison;
 use crate::requests::Answer;
@@ -15,6 +16,7 @@ impl Comparison {
     fn answer(&mut self, heap: Global, request: Request) -> Answer
         ensures law { λ r. ⌜ Obeys (first (now (self .entry))) (second (now (self .entry))) (questions (now (self .entry))) (rounds (now (self .entry))) request r (rounds (now (self .exit))) ⌝ }
         ensures same { λ _. ⌜ Same (now (self .entry)) (now (self .exit)) ⌝ }
+        ensures kept { λ r. ⌜ Kept (now (self .entry)) (r ∷ []) (now (self .exit)) ⌝ }
     {
         match request {
             Request::Round => match self.round() {
@@ -44,6 +46,7 @@ impl Comparison {
         ensures law { λ r. ⌜ made r (λ v. Run (first (now (self .entry))) (second (now (self .entry))) (questions (now (self .entry))) (rounds (now (self .entry)))
             (now (requests .entry)) (vec-items v) (rounds (now (self .exit)))) ⌝ }
         ensures same { λ r. ⌜ made r (λ _. Same (now (self .entry)) (now (self .exit))) ⌝ }
+        ensures steady { λ r. ⌜ made r (λ v. Steady (now (self .entry)) (vec-items v) (now (self .exit))) ⌝ }
         ensures memory { λ r. ⌜ refused r (λ _. now (self .exit) ≡ now (self .entry)) ⌝ }
     {
         let mut answers = Vec::with_capacity(heap, requests.len())?;
