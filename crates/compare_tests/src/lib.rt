@@ -31,7 +31,12 @@ mod tests {
     use std::test::*;
 
     // An image: of each state its label and first link, and of each link its target and next link.
-    fn image(heap: Global, kind: u8, states: &[([u8; 4], u16)], links: &[(u16, u16)]) -> Result<Vec<u8>, AllocError> {
+    fn image(
+        heap: Global,
+        kind: u8,
+        states: &[([u8; 4], u16)],
+        links: &[(u16, u16)],
+    ) -> Result<Vec<u8>, AllocError> {
         let [n, n_high] = ((states.len() % 65536) as u16).to_le_bytes();
         let [m, m_high] = ((links.len() % 65536) as u16).to_le_bytes();
         let mut bytes = Vec::from_slice(heap, &[kind, 0, n, n_high, m, m_high, 0, 0])?;
@@ -48,7 +53,11 @@ mod tests {
         Ok(bytes)
     }
 
-    fn words(heap: Global, states: &[([u8; 4], u16)], links: &[(u16, u16)]) -> Result<StoredModel<SignalWord>, Fail> {
+    fn words(
+        heap: Global,
+        states: &[([u8; 4], u16)],
+        links: &[(u16, u16)],
+    ) -> Result<StoredModel<SignalWord>, Fail> {
         let bytes = image(heap, 1, states, links)?;
         let mut model = StoredModel::<SignalWord>::new(heap)?;
         match model.load(heap, bytes.as_slice(), Slot::First) {
@@ -74,7 +83,13 @@ mod tests {
     }
 
     // The comparison closes so, after so many rounds and no fewer.
-    fn closes<L: Label, M: Model<Label = L>, N: Model<Label = L>>(heap: Global, first: &M, second: &N, outcome: Outcome, rounds: usize) -> Result<Comparison, Fail> {
+    fn closes<L: Label, M: Model<Label = L>, N: Model<Label = L>>(
+        heap: Global,
+        first: &M,
+        second: &N,
+        outcome: Outcome,
+        rounds: usize,
+    ) -> Result<Comparison, Fail> {
         let mut comparison = Comparison::open(heap, first, second)?;
         for k in 0..rounds {
             match comparison.verdict() {
@@ -102,11 +117,21 @@ mod tests {
     }
 
     // Both models' evaluations of the formula tell them apart; it has so many nodes.
-    fn separates<L: Label, M: Model<Label = L>, N: Model<Label = L>>(heap: Global, comparison: &Comparison, first: &M, second: &N, nodes: usize) -> Result<(), Fail> {
+    fn separates<L: Label, M: Model<Label = L>, N: Model<Label = L>>(
+        heap: Global,
+        comparison: &Comparison,
+        first: &M,
+        second: &N,
+        nodes: usize,
+    ) -> Result<(), Fail> {
         let mut places = Vec::new(heap);
         let mut table = Vec::new(heap);
         for _ in 0..2045 {
-            places.push(Node { code: 9, a: 9, b: 9 })?;
+            places.push(Node {
+                code: 9,
+                a: 9,
+                b: 9,
+            })?;
         }
         for _ in 0..8180 {
             table.push(0)?;
@@ -127,7 +152,9 @@ mod tests {
     }
 
     const DARK: [u8; 4] = [0, 0, 0, 0];
+
     const ONE: [u8; 4] = [1, 0, 0, 0];
+
     const TWO: [u8; 4] = [2, 0, 0, 0];
 
     // The bench models: one dark state; three states, the last lit; two ways into one of two lights, chosen late or early.
@@ -136,15 +163,27 @@ mod tests {
     }
 
     fn slow(heap: Global) -> Result<StoredModel<SignalWord>, Fail> {
-        words(heap, &[(DARK, 1), (DARK, 2), (ONE, 3)], &[(1, 0), (2, 0), (2, 0)])
+        words(
+            heap,
+            &[(DARK, 1), (DARK, 2), (ONE, 3)],
+            &[(1, 0), (2, 0), (2, 0)],
+        )
     }
 
     fn late(heap: Global) -> Result<StoredModel<SignalWord>, Fail> {
-        words(heap, &[(DARK, 1), (DARK, 2), (ONE, 4), (TWO, 5)], &[(1, 0), (2, 3), (3, 0), (2, 0), (3, 0)])
+        words(
+            heap,
+            &[(DARK, 1), (DARK, 2), (ONE, 4), (TWO, 5)],
+            &[(1, 0), (2, 3), (3, 0), (2, 0), (3, 0)],
+        )
     }
 
     fn early(heap: Global) -> Result<StoredModel<SignalWord>, Fail> {
-        words(heap, &[(DARK, 1), (DARK, 3), (DARK, 4), (ONE, 5), (TWO, 6)], &[(1, 2), (2, 0), (3, 0), (4, 0), (3, 0), (4, 0)])
+        words(
+            heap,
+            &[(DARK, 1), (DARK, 3), (DARK, 4), (ONE, 5), (TWO, 6)],
+            &[(1, 2), (2, 0), (3, 0), (4, 0), (3, 0), (4, 0)],
+        )
     }
 
     #[test]
@@ -193,8 +232,18 @@ mod tests {
         let heap = rt.alloc();
         let fresh = RuleModel::new();
         let mut ruled = RuleModel::new();
-        let stay = Rule { care: 1, need: 0, set: 0, clear: 0 };
-        let go = Rule { care: 1, need: 0, set: 1, clear: 0 };
+        let stay = Rule {
+            care: 1,
+            need: 0,
+            set: 0,
+            clear: 0,
+        };
+        let go = Rule {
+            care: 1,
+            need: 0,
+            set: 1,
+            clear: 0,
+        };
         check(ruled.load(1, 0, &[stay, go]).is_ok())?;
         let stored = words(heap, &[(DARK, 1), (ONE, 3)], &[(0, 2), (1, 0), (1, 0)])?;
         closes(heap, &ruled, &stored, Outcome::Alike, 1)?;
@@ -233,7 +282,9 @@ mod tests {
             Answer::Class(c) => *c,
             Answer::Verdict(v) => v.rounds,
             Answer::Formula(nodes) => nodes.len(),
-            Answer::Failed(Error::Refused(e)) => 10000 + 100 * (e.number() as usize) + e.place % 100,
+            Answer::Failed(Error::Refused(e)) => 10000
+                + 100 * (e.number() as usize)
+                + e.place % 100,
             Answer::Failed(Error::Memory) => 99999,
         }
     }

@@ -28,9 +28,14 @@ use std::fmt::Write;
 
 // A comparison has at most 512 states, so it closes within 512 rounds and its formula has at most 2045 nodes.
 const ROUNDS: usize = 512;
+
 const NODES: usize = 2045;
 
-const TRUTH: Node = Node { code: 0, a: 0, b: 0 };
+const TRUTH: Node = Node {
+    code: 0,
+    a: 0,
+    b: 0,
+};
 
 fn refused(heap: Global, refusal: &Refusal) -> Result<String, Failure> {
     Err(Failure::Told(words::refused(heap, refusal)?))
@@ -45,12 +50,19 @@ fn rows_of<M: Model>(heap: Global, model: &M, nodes: &[Node]) -> Result<Vec<u64>
 }
 
 // The formula as text, or, where it is too long or too deep to be read back, as its table of nodes.
-fn push_formula(out: &mut String, heap: Global, nodes: &[Node], questions: usize) -> Result<(), Failure> {
+fn push_formula(
+    out: &mut String,
+    heap: Global,
+    nodes: &[Node],
+    questions: usize,
+) -> Result<(), Failure> {
     if let Some(text) = print_formula(heap, nodes, questions)? {
         writeln!(out, "true at OLD, false at NEW: {text}")?;
         return Ok(());
     }
-    out.push_str("true at OLD, false at NEW (too long for a line, so as nodes: number, code, a, b):\n")?;
+    out.push_str(
+        "true at OLD, false at NEW (too long for a line, so as nodes: number, code, a, b):\n",
+    )?;
     for (i, node) in nodes.iter().enumerate() {
         let Node { code, a, b } = *node;
         writeln!(out, "{i} {code} {a} {b}")?;
@@ -77,16 +89,25 @@ fn different<L: Label>(
     out.push_str("to see it:\n")?;
     let old_rows = rows_of(heap, old, nodes.as_slice())?;
     let new_rows = rows_of(heap, new, nodes.as_slice())?;
-    let steps = trial(heap, nodes.as_slice(), old, old_rows.as_slice(), new, new_rows.as_slice())?;
+    let steps = trial(
+        heap,
+        nodes.as_slice(),
+        old,
+        old_rows.as_slice(),
+        new,
+        new_rows.as_slice(),
+    )?;
     out.push_str(steps.as_str())?;
     Ok(out)
 }
 
 fn alike(heap: Global, rounds: usize, old: usize, new: usize) -> Result<String, Failure> {
-    Ok(format!(
-        heap,
-        "alike after {rounds} rounds ({old} and {new} states): no condition of any size tells the two panels apart\n"
-    )?)
+    Ok(
+        format!(
+            heap,
+            "alike after {rounds} rounds ({old} and {new} states): no condition of any size tells the two panels apart\n"
+        )?,
+    )
 }
 
 fn of_kind<L: Coded>(heap: Global, old: &[u8], new: &[u8]) -> Result<String, Failure> {
@@ -115,4 +136,10 @@ pub fn compare(heap: Global, old: &[u8], new: &[u8]) -> Result<String, Failure> 
     }
 }
 
-fn print_formula(heap: Global, nodes: &[Node], questions: usize) -> Result<Option<String>, std::alloc::AllocError> { Ok(None) }
+fn print_formula(
+    heap: Global,
+    nodes: &[Node],
+    questions: usize,
+) -> Result<Option<String>, std::alloc::AllocError> {
+    Ok(None)
+}

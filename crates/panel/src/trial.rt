@@ -56,7 +56,10 @@ pub fn trial<M: Model, N: Model>(
             1 => {
                 let here = yes_or_no(marked(old_rows, i, s));
                 let there = yes_or_no(marked(new_rows, i, t));
-                writeln!(out, "  see: q{a} is {here} in state {s} of OLD and {there} in state {t} of NEW")?;
+                writeln!(
+                    out,
+                    "  see: q{a} is {here} in state {s} of OLD and {there} in state {t} of NEW"
+                )?;
                 break;
             }
             2 => i = a,
@@ -68,9 +71,15 @@ pub fn trial<M: Model, N: Model>(
                 s = step(old, old_rows, a, s, holds);
                 t = step(new, new_rows, a, t, !holds);
                 if holds {
-                    writeln!(out, "  step: OLD to state {s}; NEW by any step, as to state {t}")?;
+                    writeln!(
+                        out,
+                        "  step: OLD to state {s}; NEW by any step, as to state {t}"
+                    )?;
                 } else {
-                    writeln!(out, "  step: NEW to state {t}; OLD by any step, as to state {s}")?;
+                    writeln!(
+                        out,
+                        "  step: NEW to state {t}; OLD by any step, as to state {s}"
+                    )?;
                 }
                 i = a;
             }
