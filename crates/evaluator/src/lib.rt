@@ -1,3 +1,5 @@
+// Decides CTL formulas on any model: at which states the formula of each node of a table holds.
+
 ghost use Rattle.evaluator.specs.Breaches.{Breach};
 ghost use Rattle.evaluator.specs.Evaluated.{Evaluated};
 ghost use Rattle.kripke.specs.Refusals.{Judged};
@@ -13,8 +15,6 @@ use kripke::label::Label;
 use kripke::model::Model;
 use kripke::node::Node;
 use kripke::refusal::Refusal;
-
-// Decides CTL formulas on any model: at which states the formula of each node of a table holds.
 
 mod operators;
 mod row;

@@ -117,6 +117,6 @@ pub(crate) fn apply<M: Model>(
         10 => always(model, true, full, a, row),
         11 => until(model, false, a, b, row),
         12 => until(model, true, a, b, row),
-        _ => (),
+        _ => unreachable(),
     }
 }

@@ -58,37 +58,43 @@ mod tests {
                 check_eq(refusal.layer_number(), 3)?;
             }
         }
-        check_eq(model.states(), 4)?;
-        check_eq(model.initial(), 3)?;
         check_eq(model.label(2), SignalWord(2))?;
-        check_eq(model.successor(2, 0), 3)?;
-        check_eq(model.successor(3, 0), 3)
+        check(
+            model.states() == 4
+                && model.initial() == 3
+                && model.successor(2, 0) == 3
+                && model.successor(3, 0) == 3,
+        )
     }
 
     #[test]
     fn rule_limits() -> Result<(), Fail> {
-        refused(0, 0, &[], 7, 0)?;
-        refused(9, 0, &[rule(0, 1, 0, 0)], 7, 0)?;
-        refused(2, 4, &[], 7, 0)?;
+        for (bits, initial) in [(0, 0), (9, 0), (2, 4)] {
+            refused(bits, initial, &[rule(0, 1, 0, 0)], 7, 0)?;
+        }
         refused(8, 0, &[rule(0, 0, 0, 0); 17], 7, 0)?;
         let largest = ruled(8, 255, &[rule(255, 255, 0, 255); 16])?;
-        check_eq(largest.states(), 256)?;
-        check_eq(largest.degree(255), 16)?;
-        check_eq(largest.successor(255, 15), 0)?;
+        check(
+            largest.states() == 256 && largest.degree(255) == 16 && largest.successor(255, 15) == 0,
+        )?;
         let fresh = RuleModel::new();
-        check_eq(fresh.states(), 2)?;
-        check_eq(fresh.initial(), 0)?;
-        check_eq(fresh.successor(1, 0), 1)
+        check(fresh.states() == 2 && fresh.initial() == 0 && fresh.successor(1, 0) == 1)
     }
 
     #[test]
     fn unlawful_rules() -> Result<(), Fail> {
-        refused(2, 0, &[rule(3, 3, 1, 2), rule(1, 2, 0, 0)], 8, 1)?;
-        refused(2, 0, &[rule(0, 0, 3, 1), rule(1, 2, 0, 0)], 8, 0)?;
-        refused(2, 0, &[rule(4, 0, 0, 0)], 8, 0)?;
-        refused(2, 0, &[rule(4, 4, 0, 0)], 8, 0)?;
-        refused(2, 0, &[rule(0, 0, 4, 0)], 8, 0)?;
-        refused(2, 0, &[rule(0, 0, 0, 4)], 8, 0)
+        let bad = [
+            rule(1, 2, 0, 0),
+            rule(0, 0, 3, 1),
+            rule(4, 0, 0, 0),
+            rule(4, 4, 0, 0),
+            rule(0, 0, 4, 0),
+            rule(0, 0, 0, 4),
+        ];
+        for unlawful in bad {
+            refused(2, 0, &[rule(3, 3, 1, 2), unlawful, unlawful], 8, 1)?;
+        }
+        Ok(())
     }
 
     // Numbers past an end: state 0, and the first successor.
@@ -99,14 +105,18 @@ mod tests {
             1,
             &[rule(1, 1, 0, 1), rule(3, 0, 3, 0), rule(1, 1, 2, 1)],
         )?;
-        check_eq(model.degree(3), 2)?;
-        check_eq(model.successor(3, 0), 2)?;
-        check_eq(model.successor(1, 1), 2)?;
-        check_eq(model.successor(1, 2), 0)?;
-        check_eq(model.degree(2), 1)?;
-        check_eq(model.successor(2, 7), 2)?;
-        check_eq(model.degree(4), 1)?;
-        check_eq(model.successor(4, 0), 3)?;
+        let moves = [
+            (3, 0, 2),
+            (1, 0, 0),
+            (1, 1, 2),
+            (1, 2, 0),
+            (2, 7, 2),
+            (4, 0, 3),
+        ];
+        for (s, i, next) in moves {
+            check_eq(model.successor(s, i), next)?;
+        }
+        check(model.degree(3) == 2 && model.degree(2) == 1 && model.degree(4) == 1)?;
         check_eq(model.label(4), SignalWord(0))
     }
 
@@ -196,22 +206,20 @@ mod tests {
 
     #[test]
     fn bad_nodes(rt: LibcRuntime) -> Result<(), Fail> {
-        let heap = rt.alloc();
-        rejected(heap, &[node(13, 0, 0)], 4, 15, 0)?;
-        rejected(heap, &[node(0, 0, 0), node(0, 1, 0)], 8, 15, 1)?;
-        rejected(heap, &[node(0, 0, 1)], 4, 15, 0)?;
-        rejected(heap, &[node(1, 32, 0)], 4, 15, 0)?;
-        rejected(heap, &[node(1, 0, 1)], 4, 15, 0)?;
-        rejected(heap, &[node(0, 0, 0), node(2, 1, 0)], 8, 15, 1)?;
-        rejected(heap, &[node(0, 0, 0), node(7, 0, 1)], 8, 15, 1)?;
-        rejected(heap, &[node(0, 0, 0), node(11, 0, 1)], 8, 15, 1)?;
-        rejected(
-            heap,
-            &[node(0, 0, 0), node(3, 2, 0), node(13, 0, 0)],
-            4,
-            15,
-            1,
-        )
+        let bad = [
+            node(13, 0, 0),
+            node(0, 1, 0),
+            node(0, 0, 1),
+            node(1, 32, 0),
+            node(1, 0, 1),
+            node(2, 1, 0),
+            node(7, 0, 1),
+            node(11, 0, 1),
+        ];
+        for second in bad {
+            rejected(rt.alloc(), &[node(0, 0, 0), second, second], 4, 15, 1)?;
+        }
+        Ok(())
     }
 
     #[test]
