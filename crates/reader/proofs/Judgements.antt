@@ -17,7 +17,7 @@ use Rattle.kripke.specs.declared.refusal.Layer.the-variants as layer
 use Rattle.reader.specs.Tokens.{tokens}
 use Rattle.reader.specs.Grammar.{Sentence, Within}
 use Rattle.reader.specs.Table.{table, laid}
-use Rattle.reader.specs.Breaches.{Breach, long, unlimited, unexpected, unasked, deep, many, stage, Sooner, Reads}
+use Rattle.reader.specs.Breaches.{Breach, long, unlimited, unexpected, unasked, deep, many, stage, Sooner, Reads, Readable, Complete}
 use Rattle.reader.specs.Reading.{Whole, Parsed}
 use Rattle.reader.proofs.Tables.{root-is}
 use Rattle.reader.proofs.Lawful.{well-formed}
@@ -90,3 +90,10 @@ read-again text q before after n none (Ok m) lim w a b z =
         rooted = root-is f;
         ordered = well-formed q f (z .within)
       } )
+
+-- What is judged so is read, if it is to be read.
+pub complete : (text : List ℕ) (q : ℕ) (before after : List Node) (Same : Type 0) (r : Result ℕ Refusal)
+    → JudgedBy Sooner (Breach text q (length before)) layer.Text (Reads text q before after) Same r → Complete text q (length before) r
+complete text q before after Same (Ok n) z f w = ap Ok (z .1 .counted ∙ ap (λ x. length (table x)) (sym (z .1 .only f (w .sentence))))
+complete text q before after Same (Err e) z f w =
+    absurd (clean text q (length before) (record { short = w .short; some = w .some; few = w .few }) f (w .sentence) (w .within) (w .room) (w .nodes) (e .cause) (e .place) (z .0 .broken))
