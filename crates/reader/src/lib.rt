@@ -33,3 +33,6 @@ pub fn read_formula(text: &[u8], questions: usize, places: &mut [Node]) -> Resul
     }
     reader::read_whole(text, questions, places)
 }
+
+#[cfg(test)]
+mod tests;
