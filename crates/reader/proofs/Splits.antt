@@ -14,19 +14,8 @@ use Rattle.std.proofs.shelf.Tests.{eq-eqb, ne-eqb, cond-true, cond-false}
 use Rattle.reader.specs.declared.token.Unary.{Unary}
 use Rattle.reader.specs.declared.token.Token.{Token}
 use Rattle.reader.specs.declared.token.Token.the-variants.{Question, Other}
+use Rattle.reader.specs.declared.token.Token.the-variants as token
 use Rattle.reader.specs.Tokens.{single, operator, operatorSplit, numeral, asking, acting, lex}
-
--- What follows is the rest of the text.
-left : {X : Type 0} (x : X) (o : Option X) (n : ℕ) (ts : List ℕ) → o ≡ Some x
-    → Some (x, take (length ts - n) (drop n ts)) ≡ mapped {U = X × List ℕ} (λ u. (u, drop n ts)) o
-left {X} x o n ts e = ap (λ (l : List ℕ). Some (x, l)) (take-rest ts n) ∙ ap (mapped {U = X × List ℕ} (λ u. (u, drop n ts))) (sym e)
-
-pub operator-split : (ts : List ℕ) (a b : ℕ) (u : Unary) → 2 ≤ length ts → getD ts 0 0 ≡ a → getD ts 1 0 ≡ b → operator (a ∷ b ∷ []) ≡ Some u
-    → Some (u, take (length ts - 2) (drop 2 ts)) ≡ operatorSplit ts
-operator-split [] a b u h p q e = absurd (omega arith)
-operator-split (x ∷ []) a b u h p q e = absurd (omega arith)
-operator-split (x ∷ y ∷ ts) a b u h p q e =
-    left u (operator (x ∷ y ∷ ts)) 2 (x ∷ y ∷ ts) (ap (λ (z : ℕ). operator (z ∷ y ∷ ts)) p ∙ ap (λ (z : ℕ). operator (a ∷ z ∷ ts)) q ∙ e)
 
 -- What a text's first token is, and what is left of the text.
 abbrev Splits : List ℕ → Token → List ℕ → Type 0
@@ -41,16 +30,16 @@ question-split [] j n h p e = absurd (omega arith)
 question-split (b ∷ bs) j n h p e =
     let same = take-rest (b ∷ bs) 1 in
     from-lex (b ∷ bs) (Question j) (suc n) _
-    (cond-true (eqb b 113) (asking (numeral bs)) (acting b (operator (b ∷ bs))) (eq-eqb b 113 p) ∙ ap asking (sym (e ∙ ap numeral same)))
-    (take-rest (take (length (b ∷ bs) - 1) bs) n ∙ ap (λ (l : List ℕ). drop n l) same)
+      (cond-true (eqb b 113) (asking (numeral bs)) (acting b (operator (b ∷ bs))) (eq-eqb b 113 p) ∙ ap asking (sym (e ∙ ap numeral same)))
+      (take-rest (take (length (b ∷ bs) - 1) bs) n ∙ ap (λ (l : List ℕ). drop n l) same)
 
 pub stray-split : (ts : List ℕ) → 1 ≤ length ts → getD ts 0 0 ≡ 113 → None ≡ numeral (take (length ts - 1) (drop 1 ts)) → Splits ts Other (take (length ts - 1) (drop 1 ts))
 stray-split [] h p e = absurd (omega arith)
 stray-split (b ∷ bs) h p e =
     let same = take-rest (b ∷ bs) 1 in
     from-lex (b ∷ bs) Other 1 _
-    (cond-true (eqb b 113) (asking (numeral bs)) (acting b (operator (b ∷ bs))) (eq-eqb b 113 p) ∙ ap asking (sym (e ∙ ap numeral same)))
-    same
+      (cond-true (eqb b 113) (asking (numeral bs)) (acting b (operator (b ∷ bs))) (eq-eqb b 113 p) ∙ ap asking (sym (e ∙ ap numeral same)))
+      same
 
 none-mapped : (o : Option Unary) (l : List ℕ) → None ≡ mapped {U = Unary × List ℕ} (λ u. (u, l)) o → o ≡ None
 none-mapped None l e = refl
@@ -61,6 +50,18 @@ pub sign-split : (ts : List ℕ) (t : Token) → 1 ≤ length ts → (getD ts 0 
 sign-split [] t h p e q = absurd (omega arith)
 sign-split (b ∷ bs) t h p e q =
     from-lex (b ∷ bs) t 1 _
-    (cond-false (eqb b 113) (asking (numeral bs)) (acting b (operator (b ∷ bs))) (ne-eqb b 113 p)
-    ∙ ap (acting b) (none-mapped (operator (b ∷ bs)) (drop 2 (b ∷ bs)) e) ∙ ap (λ (z : Token). (z, 1)) (sym q))
-    (take-rest (b ∷ bs) 1)
+      (cond-false (eqb b 113) (asking (numeral bs)) (acting b (operator (b ∷ bs))) (ne-eqb b 113 p)
+        ∙ ap (acting b) (none-mapped (operator (b ∷ bs)) (take (length (b ∷ bs) - 2) (drop 2 (b ∷ bs))) e) ∙ ap (λ (z : Token). (z, 1)) (sym q))
+      (take-rest (b ∷ bs) 1)
+
+some-mapped : (o : Option Unary) (u : Unary) (l rest : List ℕ) → Some (u, rest) ≡ mapped {U = Unary × List ℕ} (λ v. (v, l)) o → (o ≡ Some u) × (rest ≡ l)
+some-mapped None u l rest e = let z : _≡_ {A = ℕ} 0 1 = cc in absurd (omega arith)
+some-mapped (Some v) u l rest e = let z : _≡_ {A = Unary × List ℕ} (u, rest) (v, l) = cc in (ap Some (sym (ap (λ p. p .0) z)), ap (λ p. p .1) z)
+
+pub operator-split : (ts : List ℕ) (u : Unary) (rest : List ℕ) → 1 ≤ length ts → (getD ts 0 0 ≡ 113 → ⊥) → Some (u, rest) ≡ operatorSplit ts → Splits ts (token.Unary u) rest
+operator-split [] u rest h p e = absurd (omega arith)
+operator-split (b ∷ bs) u rest h p e =
+    let z = some-mapped (operator (b ∷ bs)) u (take (length (b ∷ bs) - 2) (drop 2 (b ∷ bs))) rest e in
+    from-lex (b ∷ bs) (token.Unary u) 2 rest
+      (cond-false (eqb b 113) (asking (numeral bs)) (acting b (operator (b ∷ bs))) (ne-eqb b 113 p) ∙ ap (acting b) (z .0))
+      (z .1 ∙ take-rest (b ∷ bs) 2)

@@ -6,10 +6,13 @@ use mathlib.Core.Logic.{_⊎_}
 use Prim.Native.Nat.{ℕ, _<_, _≤_}
 use lib.Dec.{ltb}
 use lib.ListN.{length, drop}
+use Rattle.std.specs.declared.result.Result.{Result}
+use Rattle.std.specs.declared.result.Result.the-variants.{Ok}
 use Rattle.kripke.specs.Ctl.{Formula}
 use Rattle.kripke.specs.Nodes.{root, WellFormed}
 use Rattle.kripke.specs.Refusals.{numberOf}
 use Rattle.kripke.specs.declared.node.Node.{Node}
+use Rattle.kripke.specs.declared.refusal.Refusal.{Refusal}
 use Rattle.kripke.specs.declared.refusal.Cause.{Cause}
 use Rattle.kripke.specs.declared.refusal.Cause.the-variants as cause
 use Rattle.reader.specs.declared.token.Token.{Token}
@@ -52,3 +55,17 @@ pub record Reads (text : List ℕ) (q : ℕ) (before after : List Node) (n : ℕ
   pub written : after ≡ table formula ++ drop n before
   pub rooted : root (table formula) ≡ formula
   pub ordered : WellFormed q (table formula)
+
+-- The formula is one that the reader is to read: the text is its sentence, and all limits are kept.
+pub record Readable (text : List ℕ) (q places : ℕ) (f : Formula) : Type 0 where
+  pub short : length text ≤ 4096
+  pub some : 1 ≤ q
+  pub few : q ≤ 32
+  pub sentence : Sentence text f
+  pub within : Within q f
+  pub room : length (table f) ≤ places
+  pub nodes : length (table f) ≤ 2045
+
+-- Every such formula is read.
+abbrev pub Complete : List ℕ → ℕ → ℕ → Result ℕ Refusal → Type 0
+Complete text q places r = (f : Formula) → Readable text q places f → r ≡ Ok (length (table f))

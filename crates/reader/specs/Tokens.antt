@@ -4,7 +4,7 @@ use mathlib.Core.Bool.{Bool, true, false, cond, _&&_}
 use mathlib.Core.List.{List, [], _∷_}
 use Prim.Native.Nat.{ℕ, zero, suc, _+_, _-_, _*_}
 use lib.Dec.{eqb, leb}
-use lib.ListN.{drop}
+use lib.ListN.{length, take, drop}
 use Rattle.std.specs.Options.{mapped}
 use Rattle.std.specs.declared.option.Option.{Option}
 use Rattle.std.specs.declared.option.Option.the-variants.{None, Some}
@@ -39,7 +39,7 @@ operator (b ∷ c ∷ bs) = cond (eqb b 69) (step c EX EF EG) (cond (eqb b 65) (
 
 -- The same, with the text after it.
 abbrev pub operatorSplit : List ℕ → Option (Unary × List ℕ)
-operatorSplit bs = mapped {U = Unary × List ℕ} (λ u. (u, drop 2 bs)) (operator bs)
+operatorSplit bs = mapped {U = Unary × List ℕ} (λ u. (u, take (length bs - 2) (drop 2 bs))) (operator bs)
 
 -- The number that follows the sign q, and how many digits it has: two if there are two and the first is not 0, else one.
 abbrev pub digit : ℕ → Bool

@@ -2,7 +2,7 @@
 
 ghost use Rattle.kripke.specs.Refusals.{JudgedBy};
 ghost use Rattle.kripke.specs.declared.refusal.Layer.the-variants.{Text};
-ghost use Rattle.reader.specs.Breaches.{Breach, Reads, Sooner};
+ghost use Rattle.reader.specs.Breaches.{Breach, Complete, Reads, Sooner};
 ghost use lib.ListN.{length};
 ghost use mathlib.Core.Path.{_≡_};
 use kripke::node::Node;
@@ -23,7 +23,8 @@ const NODES: usize = 2045;
 // Reads the text as a formula on the given number of questions: writes its nodes from the first place on, and gives their number.
 // The text is read twice, with no places first: so a refusal changes nothing.
 pub fn read_formula(text: &[u8], questions: usize, places: &mut [Node]) -> Result<usize, Refusal>
-    ensures { λ r. ⌜ JudgedBy Sooner (Breach (now (text .entry)) questions (length (now (places .entry)))) Text (Reads (now (text .entry)) questions (now (places .entry)) (now (places .exit))) (now (places .exit) ≡ now (places .entry)) r ⌝ }
+    ensures judged { λ r. ⌜ JudgedBy Sooner (Breach (now (text .entry)) questions (length (now (places .entry)))) Text (Reads (now (text .entry)) questions (now (places .entry)) (now (places .exit))) (now (places .exit) ≡ now (places .entry)) r ⌝ }
+    ensures complete { λ r. ⌜ Complete (now (text .entry)) questions (length (now (places .entry))) r ⌝ }
 {
     if text.len() > TEXT_BYTES || questions < 1 || questions > QUESTIONS {
         return Err(reader::refusal(Cause::TextLimits, 0));
@@ -34,3 +35,6 @@ pub fn read_formula(text: &[u8], questions: usize, places: &mut [Node]) -> Resul
     }
     reader::read_whole(text, questions, places)
 }
+
+#[cfg(test)]
+mod tests;

@@ -3,7 +3,7 @@ use mathlib.Core.Path.{_≡_, sym, _∙_, ap}
 use native.Mathlib.Omega.{arith}
 use lib.ListN.{getD}
 use Rattle.std.proofs.shelf.Tests.{ltb-false, ltb-true, leb-false, leb-true}
-use Rattle.reader.proofs.Splits.{question-split, stray-split, sign-split}
+use Rattle.reader.proofs.Splits.{question-split, stray-split, operator-split, sign-split}
 use Rattle.reader.proofs.token.split_token.Needs as need
 
 pub returns-in-Some : need.returns-in-Some
@@ -15,6 +15,11 @@ pub returns-in-None : need.returns-in-None
 returns-in-None c =
     let first : getD (c .args .text .now) 0 0 ≡ 113 = search needs in
     stray-split (c .args .text .now) (omega (arith, ltb-false, leb-true, ltb-true, leb-false)) first (c .in-None .ensures tt)
+
+pub returns-in-Some-split-operator : need.returns-in-Some-split-operator
+returns-in-Some-split-operator c =
+    operator-split (c .args .text .now) (c .in-Some-split-operator .operator) (c .in-Some-split-operator .rest .now) (omega (arith, ltb-false, leb-true, ltb-true, leb-false)) (λ e. omega arith)
+      (c .in-Some-split-operator .ensures tt)
 
 pub returns-in-None-split-operator : need.returns-in-None-split-operator
 returns-in-None-split-operator c =
