@@ -1,0 +1,12 @@
+pub mod Bits
+pub mod Rows
+pub mod Tallies
+pub mod Members
+pub mod Nexts
+pub mod Untils
+pub mod Sweeps
+pub mod Turns
+pub mod Meanings
+pub mod Breaches
+pub mod Filling
+pub mod Numbers

@@ -1,0 +1,4 @@
+pub mod Rows
+pub mod Breaches
+pub mod Evaluated
+pub mod Marks
