@@ -1,0 +1,59 @@
+-- The rows of the bench table, and what it means that a row holds, in the words of the contracts that it is an example of.
+use mathlib.Core.Path.{_≡_}
+use mathlib.Core.Bool.{Bool, true, false}
+use mathlib.Core.List.{List, [], _∷_}
+use Prim.Native.Nat.{ℕ}
+use lib.ListN.{getD}
+use Rattle.kripke.specs.Structure.{Kripke, Lawful}
+use Rattle.kripke.specs.Ctl.{Formula, Holds, NextOnly, nesting}
+use Rattle.kripke.specs.Rounds.{Separates, Apart, ClosedAlike, ClosedDifferent, FirstClosed}
+use Rattle.kripke.specs.Refusals.{Clean, First}
+use Rattle.kripke.specs.declared.node.Node.{Node}
+use Rattle.kripke.specs.declared.refusal.Cause.the-variants as cause
+use Rattle.kripke.specs.declared.refusal.Layer.the-variants as layer
+use Rattle.labels.specs.Kinds.{bands}
+use Rattle.evaluator.specs.Breaches as evaluation
+
+pub data Verdict : Type 0 where
+  alike different : Verdict
+
+pub data Row : Type 0 where
+  -- a reading of this level, with these limits, answers the question so
+  answers : (level fault preAlarm alarm question : ℕ) → Bool → Row
+  -- the formula holds at the structure's initial state, or it does not
+  says : Kripke → Formula → Bool → Row
+  -- the comparison closes after k rounds, with this verdict
+  closes : Kripke → Kripke → Verdict → ℕ → Row
+  -- so many words are enough to evaluate the table; so many are refused
+  evaluated : List Node → ℕ → Row
+  unevaluated : List Node → ℕ → Row
+
+-- The statement, or its opposite.
+abbrev pub Is : Bool → Type 0 → Type 0
+Is true P = P
+Is false P = P → ⊥
+
+-- What a verdict says after k rounds: of alike structures, that no formula separates them; of different ones, that a next-only formula of nesting k does.
+abbrev pub Says : Kripke → Kripke → Verdict → ℕ → Type 0
+Says a b alike k = ClosedAlike a b k × (Apart a b (a .initial) (b .initial) → ⊥)
+Says a b different k =
+    ClosedDifferent a b k × ((f : Formula) × NextOnly f × (nesting f ≡ k) × Separates a b (a .initial) (b .initial) f)
+
+-- The comparison of two models of signal words is closed after k rounds, and after no fewer, with this verdict.
+pub record Closes (a b : Kripke) (v : Verdict) (k : ℕ) : Type 0 where
+  pub first : Lawful 32 a
+  pub second : Lawful 32 b
+  pub closed : FirstClosed a b k
+  pub verdict : Says a b v k
+
+abbrev pub Holding : Row → Type 0
+Holding (answers level fault preAlarm alarm question told) = getD (bands level fault preAlarm alarm) question false ≡ told
+Holding (says k f told) = Lawful 32 k × Is told (Holds k f (k .initial))
+Holding (closes a b v k) = Closes a b v k
+Holding (evaluated ns w) = Clean (evaluation.Breach 32 ns w)
+Holding (unevaluated ns w) = First (evaluation.Breach 32 ns w) layer.Evaluation (record { cause = cause.FewWords; layer = layer.Evaluation; place = w })
+
+-- Every row of a table holds.
+abbrev pub Each : List Row → Type 0
+Each [] = Unit {0}
+Each (r ∷ rs) = Holding r × Each rs
