@@ -57,8 +57,12 @@ toldAs e = codes "refused " ++ (decimal (numberOf (e .cause)) ++ (codes " " ++ (
 abbrev pub Rules : Type 1
 Rules = Cause → ℕ → Type 0
 
--- The breach (d, q) is told before (c, p): its number is lower, or the same and its place lower.
-abbrev pub Before : Cause → ℕ → Cause → ℕ → Type 0
+-- An order of telling: the breach (d, q) is told before (c, p).
+abbrev pub Order : Type 1
+Order = Cause → ℕ → Cause → ℕ → Type 0
+
+-- The usual order: the lower number is told first, and of the same the lower place.
+abbrev pub Before : Order
 Before d q c p = (numberOf d < numberOf c) ⊎ ((numberOf d ≡ numberOf c) × (q < p))
 
 -- No rule is broken.
@@ -66,12 +70,19 @@ abbrev pub Clean : Rules → Type 0
 Clean V = (c : Cause) (p : ℕ) → V c p → ⊥
 
 -- The refusal tells a breach, and no breach is told before it.
-pub record First (V : Rules) (layer : Layer) (e : Refusal) : Type 0 where
+pub record FirstBy (Sooner : Order) (V : Rules) (layer : Layer) (e : Refusal) : Type 0 where
   pub broken : V (e .cause) (e .place)
-  pub least : (d : Cause) (q : ℕ) → Before d q (e .cause) (e .place) → V d q → ⊥
+  pub least : (d : Cause) (q : ℕ) → Sooner d q (e .cause) (e .place) → V d q → ⊥
   pub layered : e .layer ≡ layer
 
+abbrev pub First : Rules → Layer → Refusal → Type 0
+First = FirstBy Before
+
 -- A call on an input with these breaches: with none it gives a good value; else it gives the first as a refusal, and then Same holds (nothing has changed).
+abbrev pub JudgedBy : {X : Type 0} → Order → Rules → Layer → (X → Type 0) → Type 0 → Result X Refusal → Type 0
+JudgedBy Sooner V layer Good Same (Ok x) = Clean V × Good x
+JudgedBy Sooner V layer Good Same (Err e) = FirstBy Sooner V layer e × Same
+
 abbrev pub Judged : {X : Type 0} → Rules → Layer → (X → Type 0) → Type 0 → Result X Refusal → Type 0
 Judged V layer Good Same (Ok x) = Clean V × Good x
 Judged V layer Good Same (Err e) = First V layer e × Same

@@ -1,0 +1,17 @@
+pub mod Splits
+pub mod Streams
+pub mod Phrases
+pub mod Heads
+pub mod Levels
+pub mod Clear
+pub mod Tables
+pub mod Lawful
+pub mod Places
+pub mod Ahead
+pub mod Steps
+pub mod Chains
+pub mod Formulas
+pub mod Layings
+pub mod Orders
+pub mod Verdicts
+pub mod Judgements
