@@ -3,8 +3,8 @@ use mathlib.Core.Path.{_≡_, refl, sym, _∙_, ap}
 use mathlib.Core.List.{List, [], _∷_, _++_, append-assoc}
 use Prim.Native.Nat.{ℕ, suc, _+_, _≤_}
 use native.Mathlib.Omega.{arith}
-use lib.ListN.{length, set, drop}
-use Rattle.std.proofs.shelf.Lists.{length-set, length-append, set-at}
+use lib.ListN.{length, set, take, drop}
+use Rattle.std.proofs.shelf.Lists.{length-set, length-append, set-at, append-nil, take-all, take-append-le, drop-all}
 use Rattle.report.specs.Puts.{put, Puts, Written}
 
 length-put : (at : ℕ) (bs out : List ℕ) → length (put at bs out) ≡ length out
@@ -51,3 +51,12 @@ pub written : (text : List ℕ) {a b : List ℕ} {m : ℕ} → length text ≤ l
 written text {a} {b} {m} h p =
     let e : m ≡ length text = omega (arith, p .ends) in
     record { long = e; holds = p .holds ∙ put-front [] text a h ∙ ap (λ n. text ++ drop n a) (sym e) }
+
+-- A text that fills all bytes of a vector.
+pub filled : (text items : List ℕ) {a b : List ℕ} {m len : ℕ} → length a ≡ length text → len ≡ length text → Puts 0 text a m b → take len (b ++ drop (length b) items) ≡ text
+filled text items {a} {b} {m} {len} e l p =
+    let w = written text {m = m} (omega (arith, e)) p in
+    let d : drop m a ≡ [] = drop-all m a (omega (arith, e, w .long)) in
+    let is : b ≡ text = w .holds ∙ ap (λ z. text ++ z) d ∙ append-nil text in
+    let k : length b ≡ length text = ap (λ z. length z) is in
+    take-append-le len b (drop (length b) items) (omega (arith, l, k)) ∙ take-all len b (omega (arith, l, k)) ∙ is

@@ -1,9 +1,10 @@
 ghost use Prim.Native.Nat.{_+_, _<_, _≤_};
-ghost use Rattle.kripke.specs.Refusals.{Judged};
+ghost use Rattle.kripke.specs.Refusals.{Judged, JudgedInMemory};
+ghost use Rattle.kripke.specs.declared.refusal.Cause.the-variants.{ReportSize};
 ghost use Rattle.kripke.specs.declared.refusal.Layer.the-variants.{Report as ReportLayer};
 ghost use Rattle.report.specs.Puts.{Puts, Written};
-ghost use Rattle.report.specs.Text.{Breach, Exceeds, Fits, field, nodeLine, nodeLines, reportText};
-ghost use Rattle.std.specs.Orderings.{When};
+ghost use Rattle.report.specs.Text.{Breach, Fits, Measured, field, nodeLine, nodeLines, reportText};
+ghost use Rattle.std.specs.Of.Vec.{vec-items};
 ghost use Rattle.std.specs.Written.{decimal};
 ghost use lib.ListN.{length};
 ghost use mathlib.Core.List.{[], _∷_};
@@ -11,8 +12,11 @@ ghost use mathlib.Core.Path.{_≡_};
 use crate::report::Report;
 use kripke::node::Node;
 use kripke::refusal::Cause;
+use kripke::refusal::Error;
+use kripke::refusal::ErrorFromAlloc;
 use kripke::refusal::Layer;
 use kripke::refusal::Refusal;
+use std::alloc::Global;
 
 // A formula of the comparison has no more nodes.
 const MOST_NODES: usize = 2045;
@@ -41,18 +45,18 @@ fn lines_length(nodes: &[Node]) -> usize
     sum
 }
 
-// Has the report few enough nodes, and its text room in so many bytes?
-fn fits(report: Report, room: usize) -> bool
-    ensures { λ r. ⌜ When r (Fits (report .entry) room) (Exceeds (report .entry) room) ⌝ }
+// How many bytes the report's text has; none of a report with too many nodes.
+fn text_length(report: Report) -> Option<usize>
+    ensures { λ r. ⌜ Measured (report .entry) r ⌝ }
 {
     match report {
-        Report::Alike { rounds } => digits(rounds) + 7 <= room,
+        Report::Alike { rounds } => Some(digits(rounds) + 7),
         Report::Different { rounds, nodes } => {
             let count = nodes.len();
             if count > MOST_NODES {
-                return false;
+                return None;
             }
-            digits(rounds) + digits(count as u16) + 9 + lines_length(nodes) <= room
+            Some(digits(rounds) + digits(count as u16) + 9 + lines_length(nodes))
         }
     }
 }
@@ -138,16 +142,37 @@ fn write_text(report: Report, out: &mut [u8]) -> usize
     }
 }
 
+fn refusal() -> Refusal
+    ensures { λ r. ⌜ r ≡ record { cause = ReportSize; layer = ReportLayer; place = 0 } ⌝ }
+{
+    Refusal {
+        cause: Cause::ReportSize,
+        layer: Layer::Report,
+        place: 0,
+    }
+}
+
 // Writes the report's text from the start of the bytes, and answers its length. The rest of the bytes stays, and all of them if the report is refused.
 pub fn write_report(report: Report, out: &mut [u8]) -> Result<usize, Refusal>
     ensures { λ r. ⌜ Judged (Breach (report .entry) (length (now (out .entry)))) ReportLayer (λ n. Written (reportText (report .entry)) (now (out .entry)) n (now (out .exit))) (now (out .exit) ≡ now (out .entry)) r ⌝ }
 {
-    if !fits(report, out.len()) {
-        return Err(Refusal {
-            cause: Cause::ReportSize,
-            layer: Layer::Report,
-            place: 0,
-        });
+    let Some(length) = text_length(report) else {
+        return Err(refusal());
+    };
+    if length > out.len() {
+        return Err(refusal());
     }
     Ok(write_text(report, out))
+}
+
+// The report's text in bytes of its own, just as many as it needs. So it is refused only for its number of nodes.
+pub fn report_text(heap: Global, report: Report) -> Result<Vec<u8>, Error>
+    ensures { λ r. ⌜ JudgedInMemory (Breach (report .entry) (length (reportText (report .entry)))) ReportLayer (λ text. vec-items text ≡ reportText (report .entry)) (Unit {0}) r ⌝ }
+{
+    let Some(length) = text_length(report) else {
+        return Err(Error::Refused(refusal()));
+    };
+    let mut text = vec![in heap; 0; length]?;
+    write_text(report, text.as_mut_slice());
+    Ok(text)
 }

@@ -1,12 +1,22 @@
 use mathlib.Core.Path.{refl}
+use mathlib.Core.Logic.{inl, inr}
+use native.Mathlib.Omega.{arith}
 use Rattle.report.proofs.Putting.{written}
 use Rattle.report.proofs.Refused.{refused, accepted}
 use Rattle.report.proofs.write.write_report.Needs as need
 
-pub returns-then-not-fits : need.returns-then-not-fits
-returns-then-not-fits c = (refused _ _ (c .if-not-fits .ensures tt), refl)
+pub write-text-requires : need.write-text-requires
+write-text-requires c κs = let (few, long) = c .in-Some .ensures tt in record { few = few; held = omega (arith, long, c .if-length-out .left) }
+
+pub returns-in-rest : need.returns-in-rest
+returns-in-rest c = (refused _ _ _ (c .refusal .ensures) (inl (c .in-rest .ensures tt)), refl)
+
+pub returns-then-length-out : need.returns-then-length-out
+returns-then-length-out c =
+    let (few, long) = c .in-Some .ensures tt in
+    (refused _ _ _ (c .refusal-then-length-out .ensures) (inr (omega (arith, long, c .if-length-out .taken))), refl)
 
 pub returns : need.returns
 returns c =
-    let fits = c .if-not-fits .ensures tt in
-    (accepted _ _ fits, written _ (fits .held) (c .write-text .ensures))
+    let (few, long) = c .in-Some .ensures tt in
+    (accepted _ _ (record { few = few; held = omega (arith, long, c .if-length-out .left) }), written _ (omega (arith, long, c .if-length-out .left)) (c .write-text .ensures))
