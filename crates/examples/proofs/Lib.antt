@@ -1,4 +1,5 @@
 pub mod Tests
 pub mod Marks
 pub mod Right
+pub mod Texts
 pub mod Outcomes

@@ -1,25 +1,33 @@
 -- What comes out at each row of a table: where it is what the rows claim, every row holds.
-use mathlib.Core.Path.{_≡_, refl}
+use mathlib.Core.Path.{_≡_}
 use mathlib.Core.Bool.{Bool, true, false, _&&_, Bool·beq}
 use mathlib.Core.List.{List, [], _∷_}
 use Prim.Native.Nat.{ℕ, suc, _*_}
 use native.Mathlib.Omega.{arith}
 use lib.Dec.{T, leb, ltb}
-use lib.ListN.{length, getD}
+use lib.ListN.{length, take, drop, getD}
 use Rattle.std.proofs.shelf.Tests.{leb-true, ltb-true}
-use Rattle.kripke.specs.Structure.{Kripke}
+use Rattle.kripke.specs.Nodes.{root}
+use Rattle.kripke.specs.declared.node.Node.{Node}
 use Rattle.kripke.proofs.Reflect.{T-true, and-T, beq-T}
 use Rattle.labels.specs.Kinds.{bands}
-use Rattle.evaluator.specs.Marks.{Ready}
-use Rattle.evaluator.proofs.Breaches.{first-words, clean}
-use Rattle.examples.specs.Rows.{Row, answers, says, closes, evaluated, unevaluated, Holding, Each}
-use Rattle.examples.proofs.Tests.{lawful, firstClosed, verdict, wellFormed, marks, enough}
+use Rattle.evaluator.proofs.Breaches as evaluation
+use Rattle.reader.specs.Tokens.{Stream, tokens, kinds, first, offset}
+use Rattle.reader.specs.Grammar.{Mark, mark, toks, whole}
+use Rattle.reader.specs.Grammar.{marks as spelling}
+use Rattle.reader.specs.Table.{table}
+use Rattle.reader.specs.declared.token.Token.{Token}
+use Rattle.examples.specs.Rows.{Row, answers, says, closes, reads, tooDeep, evaluated, unevaluated, Holding, Each}
+use Rattle.examples.proofs.Tests.{lawful, firstClosed, verdict, wellFormed, marks, enough, asked, limited, chain, skip}
 use Rattle.examples.proofs.Right.{closes-right, says-right, table-right}
+use Rattle.examples.proofs.Texts.{reads-right, deep-right}
 
--- The row of number i passes its test, or it does not.
+-- The row of number i passes its tests, or it does not. Of a text also: its tokens, its nodes; where it stops, what is left there, with the levels.
 pub data Outcome : Type 0 where
   fine : Outcome
   broken : ℕ → Outcome
+  readAs : Bool → List Token → List Node → Outcome
+  stops : Bool → List Token → List Mark → ℕ → Outcome
 
 abbrev found : ℕ → Bool → Outcome
 found i true = fine
@@ -29,46 +37,90 @@ passed : (i : ℕ) (x : Bool) → found i x ≡ fine → T x
 passed i true e = tt
 passed i false e = let z : _≡_ {A = ℕ} 0 1 = cc in omega arith
 
-abbrev test : Row → Bool
-test (answers level fault preAlarm alarm question told) = Bool·beq (getD (bands level fault preAlarm alarm) question false) told
-test (says k f told) = lawful 32 k && (enough k f && Bool·beq told (marks k f (k .initial)))
-test (closes a b v k) = lawful 32 a && (lawful 32 b && (firstClosed a b k && verdict a b v k))
-test (evaluated ns w) = wellFormed 32 ns && leb (4 * length ns) w
-test (unevaluated ns w) = wellFormed 32 ns && ltb w (4 * length ns)
+-- A chain of operators is too deep from its token 64 on.
+abbrev deepest : List ℕ → Stream
+deepest text = skip 64 (tokens 0 0 text)
 
-right : (r : Row) → T (test r) → Holding r
-right (answers level fault preAlarm alarm question told) t = beq-T (getD (bands level fault preAlarm alarm) question false) told .0 t
-right (says k f told) t =
-    let (x, u) = and-T (lawful 32 k) (enough k f && Bool·beq told (marks k f (k .initial))) .0 t in
+abbrev chained : List ℕ → List Mark
+chained text = whole (chain (kinds (tokens 0 0 text)))
+
+abbrev outcome : ℕ → Row → Outcome
+outcome i (answers level fault preAlarm alarm question told) = found i (Bool·beq (getD (bands level fault preAlarm alarm) question false) told)
+outcome i (says k f told) = found i (lawful 32 k && (enough k f && Bool·beq told (marks k f (k .initial))))
+outcome i (closes a b v k) = found i (lawful 32 a && (lawful 32 b && (firstClosed a b k && verdict a b v k)))
+outcome i (reads text ns) =
+    readAs (leb (length text) 4096 && (leb (length ns) 2045 && limited 32 (spelling 1 (root ns)))) (kinds (tokens 0 0 text)) (table (root ns))
+outcome i (tooDeep text place) =
+    stops (leb (length text) 4096 && (ltb 64 (length (kinds (tokens 0 0 text))) && (limited 32 (take 64 (chained text)) && asked 32 (first (deepest text)))))
+    (kinds (tokens 0 0 text)) (drop 64 (chained text)) (offset (deepest text))
+outcome i (evaluated ns w) = found i (wellFormed 32 ns && leb (4 * length ns) w)
+outcome i (unevaluated ns w) = found i (wellFormed 32 ns && ltb w (4 * length ns))
+
+abbrev claim : Row → Outcome
+claim (answers level fault preAlarm alarm question told) = fine
+claim (says k f told) = fine
+claim (closes a b v k) = fine
+claim (reads text ns) = readAs true (toks (whole (root ns))) ns
+claim (tooDeep text place) = stops true (toks (chained text)) (mark (first (deepest text)) 65 ∷ drop 65 (chained text)) place
+claim (evaluated ns w) = fine
+claim (unevaluated ns w) = fine
+
+right : (i : ℕ) (r : Row) → outcome i r ≡ claim r → Holding r
+right i (answers level fault preAlarm alarm question told) e =
+    beq-T (getD (bands level fault preAlarm alarm) question false) told .0 (passed i _ e)
+right i (says k f told) e =
+    let (x, u) = and-T (lawful 32 k) (enough k f && Bool·beq told (marks k f (k .initial))) .0 (passed i _ e) in
     let (y, z) = and-T (enough k f) (Bool·beq told (marks k f (k .initial))) .0 u in
     says-right k f told x y z
-right (closes a b v k) t =
-    let (x, u) = and-T (lawful 32 a) (lawful 32 b && (firstClosed a b k && verdict a b v k)) .0 t in
+right i (closes a b v k) e =
+    let (x, u) = and-T (lawful 32 a) (lawful 32 b && (firstClosed a b k && verdict a b v k)) .0 (passed i _ e) in
     let (y, w) = and-T (lawful 32 b) (firstClosed a b k && verdict a b v k) .0 u in
     let (f, z) = and-T (firstClosed a b k) (verdict a b v k) .0 w in
     closes-right a b v k x y f z
-right (evaluated ns w) t =
-    let (x, y) = and-T (wellFormed 32 ns) (leb (4 * length ns) w) .0 t in
+right i (reads text ns) e =
+    let within = leb (length text) 4096 && (leb (length ns) 2045 && limited 32 (spelling 1 (root ns))) in
+    let h : readAs within (kinds (tokens 0 0 text)) (table (root ns)) ≡ readAs true (toks (whole (root ns))) ns = e in
+    let a : within ≡ true = cc in
+    let b : kinds (tokens 0 0 text) ≡ toks (whole (root ns)) = cc in
+    let d : table (root ns) ≡ ns = cc in
+    let (x, u) = and-T (leb (length text) 4096) (leb (length ns) 2045 && limited 32 (spelling 1 (root ns))) .0 (T-true within .1 a) in
+    let (y, z) = and-T (leb (length ns) 2045) (limited 32 (spelling 1 (root ns))) .0 u in
+    reads-right text ns x y z b d
+right i (tooDeep text place) e =
+    let s = tokens 0 0 text in
+    let ms = chained text in
+    let within = leb (length text) 4096 && (ltb 64 (length (kinds s)) && (limited 32 (take 64 ms) && asked 32 (first (skip 64 s)))) in
+    let h : stops within (kinds s) (drop 64 ms) (offset (skip 64 s)) ≡ stops true (toks ms) (mark (first (skip 64 s)) 65 ∷ drop 65 ms) place = e in
+    let a : within ≡ true = cc in
+    let b : kinds s ≡ toks ms = cc in
+    let d : drop 64 ms ≡ mark (first (skip 64 s)) 65 ∷ drop 65 ms = cc in
+    let o : offset (skip 64 s) ≡ place = cc in
+    let (w, t) = and-T (leb (length text) 4096) (ltb 64 (length (kinds s)) && (limited 32 (take 64 ms) && asked 32 (first (skip 64 s)))) .0 (T-true within .1 a) in
+    let (x, u) = and-T (ltb 64 (length (kinds s))) (limited 32 (take 64 ms) && asked 32 (first (skip 64 s))) .0 t in
+    let (y, z) = and-T (limited 32 (take 64 ms)) (asked 32 (first (skip 64 s))) .0 u in
+    deep-right text (chain (kinds s)) 64 place (drop 65 ms) w x y z b d o
+right i (evaluated ns w) e =
+    let (x, y) = and-T (wellFormed 32 ns) (leb (4 * length ns) w) .0 (passed i _ e) in
     let (s, f, o) = table-right 32 ns x in
-    clean 32 ns w (record { some = s; few = f; lawful = o; room = leb-true (4 * length ns) w (T-true (leb (4 * length ns) w) .0 y) })
-right (unevaluated ns w) t =
-    let (x, y) = and-T (wellFormed 32 ns) (ltb w (4 * length ns)) .0 t in
+    evaluation.clean 32 ns w (record { some = s; few = f; lawful = o; room = leb-true (4 * length ns) w (T-true (leb (4 * length ns) w) .0 y) })
+right i (unevaluated ns w) e =
+    let (x, y) = and-T (wellFormed 32 ns) (ltb w (4 * length ns)) .0 (passed i _ e) in
     let (s, f, o) = table-right 32 ns x in
-    first-words 32 ns w s f o (ltb-true w (4 * length ns) (T-true (ltb w (4 * length ns)) .0 y))
+    evaluation.first-words 32 ns w s f o (ltb-true w (4 * length ns) (T-true (ltb w (4 * length ns)) .0 y))
 
 -- What comes out at the rows, the first of which has number i, and what is claimed of them.
 abbrev pub outcomes : ℕ → List Row → List Outcome
 outcomes i [] = []
-outcomes i (r ∷ rs) = found i (test r) ∷ outcomes (suc i) rs
+outcomes i (r ∷ rs) = outcome i r ∷ outcomes (suc i) rs
 
 abbrev pub claims : List Row → List Outcome
 claims [] = []
-claims (r ∷ rs) = fine ∷ claims rs
+claims (r ∷ rs) = claim r ∷ claims rs
 
 pub each-right : (i : ℕ) (rs : List Row) → outcomes i rs ≡ claims rs → Each rs
 each-right i [] e = tt
 each-right i (r ∷ rs) e =
-    let h : found i (test r) ∷ outcomes (suc i) rs ≡ fine ∷ claims rs = e in
-    let x : found i (test r) ≡ fine = cc in
+    let h : outcome i r ∷ outcomes (suc i) rs ≡ claim r ∷ claims rs = e in
+    let x : outcome i r ≡ claim r = cc in
     let y : outcomes (suc i) rs ≡ claims rs = cc in
-    (right r (passed i (test r) x), each-right (suc i) rs y)
+    (right i r x, each-right (suc i) rs y)

@@ -1,6 +1,6 @@
 -- The statements of the table as tests that compute.
 use mathlib.Core.Bool.{Bool, true, false, not, _&&_, _||_, Bool·beq}
-use mathlib.Core.List.{List}
+use mathlib.Core.List.{List, [], _∷_}
 use Prim.Native.Nat.{ℕ, zero, suc, _*_}
 use lib.Dec.{eqb, leb, ltb}
 use lib.ListN.{length, getD}
@@ -10,6 +10,11 @@ use Rattle.kripke.specs.Nodes.{Operator, constant, asking, unary, binary, opera
 use Rattle.kripke.specs.Tests.{every, below, same, settled}
 use Rattle.kripke.specs.declared.node.Node.{Node}
 use Rattle.evaluator.specs.Marks.{steps}
+use Rattle.reader.specs.Tokens.{Stream, rest}
+use Rattle.reader.specs.Grammar.{Mark, mark}
+use Rattle.reader.specs.Phrases.{applied}
+use Rattle.reader.specs.declared.token.Token.{Token}
+use Rattle.reader.specs.declared.token.Token.the-variants as token
 use Rattle.examples.specs.Rows.{Verdict, alike, different}
 
 -- The law of models.
@@ -99,3 +104,33 @@ enough k (EG f) = enough k f && still k true (whole k) (until k true (whole k) (
 enough k (AG f) = enough k f && still k false (whole k) (until k false (whole k) (turned k (marks k f)))
 enough k (EU f g) = (enough k f && enough k g) && still k false (marks k f) (until k false (marks k f) (marks k g))
 enough k (AU f g) = (enough k f && enough k g) && still k true (marks k f) (until k true (marks k f) (marks k g))
+
+-- The limits of a formula's text.
+abbrev pub asked : ℕ → Token → Bool
+asked q token.Truth = true
+asked q (token.Question j) = ltb j q
+asked q (token.Unary u) = true
+asked q (token.Alone p) = true
+asked q (token.Sign t) = true
+asked q token.Other = true
+asked q token.End = true
+
+abbrev pub limited : ℕ → List Mark → Bool
+limited q [] = true
+limited q (mark t l ∷ ms) = (leb l 64 && asked q t) && limited q ms
+
+-- The formula of a text that begins with operators of one argument, and ends with what has none.
+abbrev pub chain : List Token → Formula
+chain [] = truth
+chain (token.Truth ∷ ts) = truth
+chain (token.Question j ∷ ts) = question j
+chain (token.Unary u ∷ ts) = applied u (chain ts)
+chain (token.Alone p ∷ ts) = truth
+chain (token.Sign t ∷ ts) = truth
+chain (token.Other ∷ ts) = truth
+chain (token.End ∷ ts) = truth
+
+-- The tokens after the first n.
+abbrev pub skip : ℕ → Stream → Stream
+skip zero s = s
+skip (suc n) s = skip n (rest s)

@@ -1,17 +1,18 @@
 -- The rows of the bench table, and what it means that a row holds, in the words of the contracts that it is an example of.
 use mathlib.Core.Path.{_≡_}
 use mathlib.Core.Bool.{Bool, true, false}
-use mathlib.Core.List.{List, [], _∷_}
-use Prim.Native.Nat.{ℕ}
-use lib.ListN.{getD}
+use mathlib.Core.List.{List, [], _∷_, _++_}
+use Prim.Native.Nat.{ℕ, _≤_}
+use lib.ListN.{length, drop, getD}
 use Rattle.kripke.specs.Structure.{Kripke, Lawful}
 use Rattle.kripke.specs.Ctl.{Formula, Holds, NextOnly, nesting}
 use Rattle.kripke.specs.Rounds.{Separates, Apart, ClosedAlike, ClosedDifferent, FirstClosed}
-use Rattle.kripke.specs.Refusals.{Clean, First}
+use Rattle.kripke.specs.Refusals.{Clean, First, FirstBy}
 use Rattle.kripke.specs.declared.node.Node.{Node}
 use Rattle.kripke.specs.declared.refusal.Cause.the-variants as cause
 use Rattle.kripke.specs.declared.refusal.Layer.the-variants as layer
 use Rattle.labels.specs.Kinds.{bands}
+use Rattle.reader.specs.Breaches.{Breach, Sooner, Reads}
 use Rattle.evaluator.specs.Breaches as evaluation
 
 pub data Verdict : Type 0 where
@@ -24,6 +25,9 @@ pub data Row : Type 0 where
   says : Kripke → Formula → Bool → Row
   -- the comparison closes after k rounds, with this verdict
   closes : Kripke → Kripke → Verdict → ℕ → Row
+  -- the text is read as a formula of these nodes; it is refused at this offset, as too deep
+  reads : List ℕ → List Node → Row
+  tooDeep : List ℕ → ℕ → Row
   -- so many words are enough to evaluate the table; so many are refused
   evaluated : List Node → ℕ → Row
   unevaluated : List Node → ℕ → Row
@@ -46,10 +50,17 @@ pub record Closes (a b : Kripke) (v : Verdict) (k : ℕ) : Type 0 where
   pub closed : FirstClosed a b k
   pub verdict : Says a b v k
 
+-- The text is read into the given places.
+pub record Read (text : List ℕ) (ns before : List Node) : Type 0 where
+  pub clean : Clean (Breach text 32 (length before))
+  pub read : Reads text 32 before (ns ++ drop (length ns) before) (length ns)
+
 abbrev pub Holding : Row → Type 0
 Holding (answers level fault preAlarm alarm question told) = getD (bands level fault preAlarm alarm) question false ≡ told
 Holding (says k f told) = Lawful 32 k × Is told (Holds k f (k .initial))
 Holding (closes a b v k) = Closes a b v k
+Holding (reads text ns) = (before : List Node) → length ns ≤ length before → Read text ns before
+Holding (tooDeep text place) = (places : ℕ) → FirstBy Sooner (Breach text 32 places) layer.Text (record { cause = cause.TooDeep; layer = layer.Text; place = place })
 Holding (evaluated ns w) = Clean (evaluation.Breach 32 ns w)
 Holding (unevaluated ns w) = First (evaluation.Breach 32 ns w) layer.Evaluation (record { cause = cause.FewWords; layer = layer.Evaluation; place = w })
 

@@ -1,12 +1,15 @@
 -- The bench table.
 use mathlib.Core.Bool.{true, false}
-use mathlib.Core.List.{List, [], _∷_}
+use mathlib.Core.List.{List, [], _∷_, _++_, map}
 use Prim.Native.Nat.{ℕ}
+use lib.Chars.{codes}
+use lib.ListN.{replicate}
+use Rattle.std.specs.Iters.{counting}
 use Rattle.kripke.specs.Structure.{Kripke, State}
 use Rattle.kripke.specs.Ctl.{question, EF, AF, AG}
 use Rattle.kripke.specs.declared.node.Node.{Node}
 use Rattle.labels.specs.Kinds.{bits}
-use Rattle.examples.specs.Rows.{Row, answers, says, closes, evaluated, unevaluated, alike, different}
+use Rattle.examples.specs.Rows.{Row, answers, says, closes, reads, tooDeep, evaluated, unevaluated, alike, different}
 
 -- A state: its signal word and its successors. A structure begins at its state 0.
 abbrev pub to : ℕ → List ℕ → State
@@ -41,6 +44,13 @@ node code a b = record { code = code; a = a; b = b }
 abbrev pub until : List Node
 until = node 1 0 0 ∷ node 1 1 0 ∷ node 1 2 0 ∷ node 2 2 0 ∷ node 3 1 3 ∷ node 11 0 4 ∷ []
 
+-- So many signs ! and T: node 0 is true, and every other node is the one before it, negated.
+abbrev pub negations : ℕ → List ℕ
+negations n = replicate n 33 ++ codes "T"
+
+abbrev pub negated : ℕ → List Node
+negated n = node 0 0 0 ∷ map (λ (i : ℕ). node 2 i 0) (counting 0 n)
+
 abbrev pub table : List Row
 table =
     answers 60 5 50 60 2 true
@@ -54,6 +64,9 @@ table =
     ∷ closes L S different 2
     ∷ closes P R different 2
     ∷ closes L M different 0
+    ∷ reads (codes "E[q0 U (q1&!q2)]") until
     ∷ evaluated until 24
     ∷ unevaluated until 23
+    ∷ reads (negations 63) (negated 63)
+    ∷ tooDeep (negations 64) 64
     ∷ []
