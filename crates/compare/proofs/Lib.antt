@@ -1,0 +1,5 @@
+pub mod Renames
+pub mod Marks
+pub mod Copies
+pub mod Levels
+pub mod Rulings

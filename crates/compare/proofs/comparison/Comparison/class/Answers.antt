@@ -1,0 +1,38 @@
+use mathlib.Core.Path.{_≡_, refl, sym, _∙_, ap, subst}
+use Prim.Native.Nat.{ℕ, _<_, _≤_}
+use lib.ListN.{getD}
+use native.Mathlib.Omega.{arith}
+use Rattle.kripke.specs.Structure.{Kripke}
+use Rattle.kripke.specs.Classes.{Low, Led}
+use Rattle.kripke.specs.Refusals.{First}
+use Rattle.kripke.specs.Rounds.{total}
+use Rattle.kripke.specs.declared.refusal.Refusal.{Refusal}
+use Rattle.kripke.specs.declared.refusal.Layer.the-variants as layer
+use Rattle.kripke.proofs.Classing.{class-of}
+use Rattle.kripke.proofs.Closing.{class-by-formulas}
+use Rattle.compare.specs.Breaches.{ClassBreach}
+use Rattle.compare.specs.Calls.{first, second}
+use Rattle.compare.proofs.Levels.{first-lawful, second-lawful}
+use Rattle.compare.proofs.Rulings.{class-refused, class-clean}
+use Rattle.compare.proofs.comparison.Comparison.class.Needs as need
+
+pub returns-then-i-self : need.returns-then-i-self
+returns-then-i-self c =
+    let s = c .args .self .now in
+    (subst (λ (e : Refusal). First (ClassBreach (first s) (second s) (c .args .i)) layer.Comparison e) (sym (c .refusal .ensures))
+      (class-refused (first s) (second s) (c .args .i) (omega (arith, c .if-i-self .taken, s .stages .long))), tt)
+
+pub returns : need.returns
+returns c =
+    let s = c .args .self .now in
+    let a : Kripke = first s in
+    let b : Kripke = second s in
+    let r = s .stages in
+    let i : ℕ = c .args .i in
+    let l : i < total a b = omega (arith, c .if-i-self .left, r .long) in
+    let low : Low (total a b) (r .parts .class) = subst (λ (n : ℕ). Low n (r .parts .class)) (r .long) (r .parts .low) in
+    let led : Led (total a b) (r .parts .class) = subst (λ (n : ℕ). Led n (r .parts .class)) (r .long) (r .parts .led) in
+    let h : getD (r .parts .class) i 0 < total a b = omega (arith, low i l, l) in
+    let z = class-by-formulas a b (first-lawful r .closed) (second-lawful r .closed) (r .rounds) i (getD (r .parts .class) i 0) l h .0
+        (class-of a b (r .rounds) (r .parts .class) (r .numbered) low led i l) in
+    (class-clean a b i l, record { inside = h; inseparable = z .0; least = z .1 })

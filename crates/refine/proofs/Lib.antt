@@ -1,0 +1,15 @@
+pub mod Fills
+pub mod Readings
+pub mod Somes
+pub mod Rowed
+pub mod Sums
+pub mod Orders
+pub mod Grown
+pub mod Step
+pub mod Part
+pub mod Scan
+pub mod Divide
+pub mod Begins
+pub mod Rounding
+pub mod Staging
+pub mod Truth

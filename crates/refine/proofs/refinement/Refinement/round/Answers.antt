@@ -1,0 +1,52 @@
+use mathlib.Core.Path.{_≡_, refl, sym, _∙_, ap, subst}
+use mathlib.Core.Bool.{Bool, true, false, cond}
+use Prim.Native.Nat.{ℕ, suc, _+_, _≤_}
+use lib.Dec.{eqb}
+use Rattle.std.specs.Orderings.{When}
+use native.Mathlib.Numerals.{add-one}
+use Rattle.kripke.specs.Structure.{Kripke}
+use Rattle.kripke.specs.Classes.{Numbered}
+use Rattle.kripke.specs.Union.{both}
+use Rattle.refine.specs.Pairs.{first-of, second-of}
+use Rattle.refine.specs.Steps.{Shallow}
+use Rattle.refine.specs.Stages.{rested}
+use Rattle.refine.specs.Refinements.{Advanced}
+use Rattle.refine.specs.declared.partition.Partition.{Partition}
+use Rattle.refine.specs.declared.refinement.Refinement.{Refinement}
+use Rattle.refine.proofs.Rowed.{table-lawful}
+use Rattle.refine.proofs.Staging.{told-exact, exact-told, next-numbered, next-rests, next-pace, classes-counted}
+use Rattle.refine.proofs.refinement.Refinement.round.Needs as need
+use Rattle.refine.proofs.refinement.Refinement.round.Needs.{then-not-self, else-not-self}
+
+pub ghost-self : need.ghost-self
+ghost-self c =
+    let r : Refinement = c .args .self .now in
+    let a : Kripke = first-of (r .pair) in
+    let b : Kripke = second-of (r .pair) in
+    let la = table-lawful (r .pair .first) .closed in
+    let lb = table-lawful (r .pair .second) .closed in
+    let p : Partition = r .parts in
+    let q : Partition = c .round .last .self in
+    let k : ℕ = r .rounds in
+    let d = c .round .ensures .rounded in
+    let k1 : suc k ≡ k + 1 = sym (add-one k) in
+    let pace : suc k ≤ p .count = subst (λ (z : Bool). cond z k (suc k) ≤ p .count) (c .if-not-self .taken) (r .pace) in
+    (d .keeps .states ∙ r .long,
+    (d .keeps .questions ∙ r .asks,
+    (c .round .ensures .few,
+    (exact-told (both a b) q (d .exact (told-exact (both a b) p (r .told))),
+    (subst (λ (n : ℕ). Shallow n q) k1 (d .shallow k (r .shallow)),
+    (subst (λ (n : ℕ). Numbered a b n (q .class)) k1 (next-numbered a b la lb k p q (r .long) (r .numbered) d),
+    (subst (λ (n : ℕ). eqb (q .count) (p .count) ≡ rested a b n) k1 (next-rests a b la lb k p q (r .long) (r .numbered) d),
+    (subst (λ (n : ℕ). cond (eqb (q .count) (p .count)) n (suc n) ≤ q .count) k1 (next-pace a b la lb k p q (r .long) (r .numbered) d pace), tt))))))))
+
+pub returns : need.returns
+returns c =
+    let r : Refinement = c .args .self .now in
+    let s : Refinement = c .if-not-self .self in
+    record {
+      stays = elim (c .if-not-self .came) [
+          then-not-self w ↦ subst (λ (z : Bool). When z (s ≡ r) ((s .pair ≡ r .pair) × (s .rounds ≡ suc (r .rounds)))) (sym (w .if-not-self .taken))
+              (ap (λ (x : Refinement). x .pair) (w .self-is), ap (λ (x : Refinement). x .rounds) (w .self-is) ∙ add-one (r .rounds))
+        | else-not-self w ↦ subst (λ (z : Bool). When z (s ≡ r) ((s .pair ≡ r .pair) × (s .rounds ≡ suc (r .rounds)))) (sym (w .if-not-self .left)) (w .self-is) ];
+      classes = classes-counted (first-of (s .pair)) (second-of (s .pair)) (s .rounds) (s .parts) (s .long) (s .numbered) }
