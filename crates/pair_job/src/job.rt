@@ -1,0 +1,59 @@
+ghost use Rattle.pair_job.specs.Job.{Compared, Told, coding, firstImage, questions, refusedText, secondImage};
+ghost use Rattle.std.specs.Of.Vec.{vec-items};
+ghost use Rattle.std.specs.Vec.{made};
+ghost use mathlib.Core.Path.{_≡_};
+use crate::closing::report_models;
+use crate::images::first_length;
+use kripke::label::Label;
+use kripke::refusal::Error;
+use kripke::refusal::ErrorFromAlloc;
+use kripke::refusal::Refusal;
+use kripke::refusal::RefusalDisplay;
+use labels::coded::Coded;
+use labels::reading::Reading;
+use labels::reading::ReadingCoded;
+use labels::reading::ReadingLabel;
+use labels::signal::SignalWord;
+use labels::signal::SignalWordCoded;
+use labels::signal::SignalWordLabel;
+use panel::slot::Slot;
+use panel::stored::StoredModel;
+use panel::stored::StoredModelModel;
+use std::alloc::AllocError;
+use std::alloc::Global;
+
+// Loads two images of labels L, the first one first, and compares their models.
+fn compare_as<L: Coded>(heap: Global, first: &[u8], second: &[u8]) -> Result<Vec<u8>, Error>
+    ensures { λ r. ⌜ Compared (L·Coded .coding) (L·Label .count) (now (first .entry)) (now (second .entry)) r ⌝ }
+{
+    let mut a = StoredModel::<L>::new(heap)?;
+    a.load(heap, first, Slot::First)?;
+    let mut b = StoredModel::<L>::new(heap)?;
+    b.load(heap, second, Slot::Second)?;
+    report_models(heap, &a, &b)
+}
+
+// The line that tells a refusal.
+fn refused_line(heap: Global, refusal: Refusal) -> Result<Vec<u8>, AllocError>
+    ensures { λ r. ⌜ made r (λ text. vec-items text ≡ refusedText refusal) ⌝ }
+{
+    Ok(format!(heap, "{refusal}\n")?.into_bytes())
+}
+
+// Compares the two images of the input, and tells how the comparison ended, or why one is refused. Want of memory is its only error.
+pub fn compare_images(heap: Global, input: &[u8]) -> Result<Vec<u8>, AllocError>
+    ensures { λ r. ⌜ made r (λ text. Told (coding (now (input .entry))) (questions (now (input .entry))) (firstImage (now (input .entry))) (secondImage (now (input .entry))) (vec-items text)) ⌝ }
+{
+    let cut = first_length(input);
+    let first = &input[0..cut];
+    let second = &input[cut..];
+    let compared = match input.first() {
+        Some(2) => compare_as::<Reading>(heap, first, second),
+        _ => compare_as::<SignalWord>(heap, first, second),
+    };
+    match compared {
+        Ok(text) => Ok(text),
+        Err(Error::Refused(refusal)) => refused_line(heap, refusal),
+        Err(Error::Memory) => Err(AllocError),
+    }
+}
