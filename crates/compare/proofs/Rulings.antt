@@ -6,6 +6,7 @@ use Prim.Native.Nat.{ℕ, zero, suc, _+_, _*_, _<_, _≤_}
 use native.Mathlib.Omega.{arith}
 use native.Mathlib.Decide.{ℕ-discrete}
 use lib.Dec.{T}
+use Rattle.std.proofs.shelf.Tests.{cases-bool}
 use Rattle.kripke.specs.Structure.{Kripke, Lawful, size}
 use Rattle.kripke.specs.Rounds.{Same, Settled, Apart, total, ClosedDifferent, ClosedAlike, ClosedAfter, FirstClosed}
 use Rattle.kripke.specs.Refusals.{Before, Clean, First}
@@ -164,3 +165,10 @@ module _ (a b : Kripke) (k places : ℕ) where
   pub formula-clean : level a b k ≡ false → 4 * total a b ≤ places + 3 → Clean (FormulaBreach a b k places)
   formula-clean e h _ _ (no-difference z) = z (different-T a b k e)
   formula-clean e h _ _ (few z) = omega arith
+
+  -- What an accepted reading knows.
+  pub clean-level : Clean (FormulaBreach a b k places) → level a b k ≡ false
+  clean-level h = ⊎-elim (λ (e : level a b k ≡ true). absurd (h NotDifferent k (no-difference (λ d. d (same-of a b k e))))) (λ e. e) (cases-bool (level a b k))
+
+  pub clean-places : Clean (FormulaBreach a b k places) → 4 * total a b ≤ places + 3
+  clean-places h = let f : places + 3 < 4 * total a b → ⊥ = λ l. h FewPlaces places (few l) in omega (arith, f)

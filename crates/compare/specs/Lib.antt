@@ -5,3 +5,4 @@ pub mod Kept
 pub mod Breaches
 pub mod Answers
 pub mod Calls
+pub mod Law

@@ -23,7 +23,7 @@ use std::alloc::AllocError;
 use std::alloc::Global;
 
 // A refusal of the comparison.
-fn refusal(cause: Cause, place: usize) -> Refusal
+pub fn refusal(cause: Cause, place: usize) -> Refusal
     ensures { λ r. ⌜ r ≡ record { cause = cause; layer = layer.Comparison; place = place } ⌝ }
 {
     Refusal { cause, layer: Layer::Comparison, place }

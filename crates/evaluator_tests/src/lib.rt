@@ -10,9 +10,9 @@ mod tests {
     use labels::signal::SignalWordDebug;
     use labels::signal::SignalWordLabel;
     use labels::signal::SignalWordPartialEq;
-    use panel::slot::Slot;
-    use panel::stored::StoredModel;
-    use panel::stored::StoredModelModel;
+    use image::slot::Slot;
+    use image::stored::StoredModel;
+    use image::stored::StoredModelModel;
     use rules::model::RuleModel;
     use rules::model::RuleModelModel;
     use rules::rule::Rule;

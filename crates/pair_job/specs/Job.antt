@@ -17,8 +17,8 @@ use Rattle.kripke.specs.declared.refusal.Error.the-variants.{Refused, Memory}
 use Rattle.kripke.specs.declared.refusal.Layer.the-variants.{FirstImage, SecondImage}
 use Rattle.kripke.specs.declared.refusal.Refusal.{Refusal}
 use Rattle.labels.specs.Kinds.{Coding, words, readings}
-use Rattle.panel.specs.Image.{kindOf, whole}
-use Rattle.panel.specs.Loading.{Breach, Describes}
+use Rattle.image.specs.Image.{kindOf, whole}
+use Rattle.image.specs.Loading.{Breach, Describes}
 use Rattle.report.specs.Text.{lineFeed}
 use Rattle.pair_job.specs.Reports.{Reports}
 

@@ -1,5 +1,5 @@
 ghost use Prim.Native.Nat.{min};
-ghost use Rattle.panel.specs.Image.{whole};
+ghost use Rattle.image.specs.Image.{whole};
 ghost use lib.ListN.{length};
 ghost use mathlib.Core.Path.{_≡_};
 

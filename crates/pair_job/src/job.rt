@@ -16,9 +16,9 @@ use labels::reading::ReadingLabel;
 use labels::signal::SignalWord;
 use labels::signal::SignalWordCoded;
 use labels::signal::SignalWordLabel;
-use panel::slot::Slot;
-use panel::stored::StoredModel;
-use panel::stored::StoredModelModel;
+use image::slot::Slot;
+use image::stored::StoredModel;
+use image::stored::StoredModelModel;
 use std::alloc::AllocError;
 use std::alloc::Global;
 

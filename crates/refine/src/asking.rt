@@ -56,7 +56,7 @@ impl Pair {
     }
 
     // How many states there are in all.
-    pub fn states(&self) -> usize
+    pub(crate) fn states(&self) -> usize
         ensures value { λ r. ⌜ r ≡ total (first-of (now (self .entry))) (second-of (now (self .entry))) ⌝ }
         ensures few { λ r. ⌜ r ≤ 512 ⌝ }
     {
@@ -64,7 +64,7 @@ impl Pair {
     }
 
     // Which states answer yes to question q.
-    pub fn answer_row(&self, q: usize) -> [bool; 512]
+    pub(crate) fn answer_row(&self, q: usize) -> [bool; 512]
         requires { ⌜ q < now self .first .questions ⌝ }
         ensures { λ r. ⌜ ((i : ℕ) → i < total (first-of (now (self .entry))) (second-of (now (self .entry)))
             → getD r i false ≡ answer (both-of (now (self .entry))) i q) ⌝ }
@@ -77,7 +77,7 @@ impl Pair {
     }
 
     // Which states have a successor in class c.
-    pub fn successor_row(&self, class: &[u16; 512], c: u16) -> [bool; 512]
+    pub(crate) fn successor_row(&self, class: &[u16; 512], c: u16) -> [bool; 512]
         ensures { λ r. ⌜ ((i : ℕ) → i < total (first-of (now (self .entry))) (second-of (now (self .entry)))
             → getD r i false ≡ hits (both-of (now (self .entry))) (now (class .entry)) c i) ⌝ }
     {

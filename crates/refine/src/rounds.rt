@@ -18,7 +18,7 @@ const NEXT: u8 = 5;
 
 impl Partition {
     // All states in one class, whose formula is `true`. Every node that a comparison can need is reserved.
-    pub fn whole(heap: Global, states: u16, questions: usize) -> Result<Partition, AllocError>
+    pub(crate) fn whole(heap: Global, states: u16, questions: usize) -> Result<Partition, AllocError>
         requires some { ⌜ 1 ≤ states ⌝ }
         requires few { ⌜ states ≤ 512 ⌝ }
         ensures { λ r. ⌜ made r (λ p. One states questions p) ⌝ }
@@ -29,7 +29,7 @@ impl Partition {
     }
 
     // Splits the classes by each question.
-    pub fn ask_all(&mut self, pair: &Pair)
+    pub(crate) fn ask_all(&mut self, pair: &Pair)
         requires long { ⌜ now self .states ≡ total (first-of (now pair)) (second-of (now pair)) ⌝ }
         requires asks { ⌜ now self .questions ≡ now pair .first .questions ⌝ }
         requires few { ⌜ Few (now self) ⌝ }
@@ -62,7 +62,7 @@ impl Partition {
     }
 
     // One round: two states stay together when they were, and each successor of either has one of the other in its class before the round.
-    pub fn round(&mut self, pair: &Pair)
+    pub(crate) fn round(&mut self, pair: &Pair)
         requires long { ⌜ now self .states ≡ total (first-of (now pair)) (second-of (now pair)) ⌝ }
         requires few { ⌜ Few (now self) ⌝ }
         ensures rounded { λ _. ⌜ Rounded (first-of (now (pair .entry))) (second-of (now (pair .entry))) (both-of (now (pair .entry))) (now (self .entry)) (now (self .exit)) ⌝ }

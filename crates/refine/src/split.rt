@@ -91,7 +91,7 @@ impl Partition {
     }
 
     // Splits every class by the row. The test is added, with its negation, only if some class falls apart.
-    pub fn split(&mut self, test: Node, row: &[bool; 512])
+    pub(crate) fn split(&mut self, test: Node, row: &[bool; 512])
         requires fits { ⌜ T (nextNode (now self .questions) (length (vec-items (now self .nodes))) test) ⌝ }
         requires few { ⌜ Few (now self) ⌝ }
         ensures divided { λ _. ⌜ Divided (now (self .entry)) (now (self .exit)) test (now (row .entry)) ⌝ }

@@ -10,9 +10,9 @@ use labels::reading::ReadingLabel;
 use labels::signal::SignalWord;
 use labels::signal::SignalWordCoded;
 use labels::signal::SignalWordLabel;
-use panel::slot::Slot;
-use panel::stored::StoredModel;
-use panel::stored::StoredModelModel;
+use image::slot::Slot;
+use image::stored::StoredModel;
+use image::stored::StoredModelModel;
 use std::io;
 use std::io::Read;
 
