@@ -1,13 +1,14 @@
 -- What comes out at each row of a table: where it is what the rows claim, every row holds.
 use mathlib.Core.Path.{_≡_}
-use mathlib.Core.Bool.{Bool, true, false, _&&_, Bool·beq}
+use mathlib.Core.Bool.{Bool, true, false, not, _&&_, Bool·beq}
 use mathlib.Core.List.{List, [], _∷_}
-use Prim.Native.Nat.{ℕ, suc, _*_}
+use Prim.Native.Nat.{ℕ, suc, _+_, _*_}
 use native.Mathlib.Omega.{arith}
 use lib.Dec.{T, leb, ltb}
 use lib.ListN.{length, take, drop, getD}
 use Rattle.std.proofs.shelf.Tests.{leb-true, ltb-true}
 use Rattle.kripke.specs.Nodes.{root}
+use Rattle.kripke.specs.Rounds.{total}
 use Rattle.kripke.specs.declared.node.Node.{Node}
 use Rattle.kripke.proofs.Reflect.{T-true, and-T, beq-T}
 use Rattle.labels.specs.Kinds.{bands}
@@ -17,9 +18,10 @@ use Rattle.reader.specs.Grammar.{Mark, mark, toks, whole}
 use Rattle.reader.specs.Grammar.{marks as spelling}
 use Rattle.reader.specs.Table.{table}
 use Rattle.reader.specs.declared.token.Token.{Token}
-use Rattle.examples.specs.Rows.{Row, answers, says, closes, reads, tooDeep, evaluated, unevaluated, Holding, Each}
-use Rattle.examples.proofs.Tests.{lawful, firstClosed, verdict, wellFormed, marks, enough, asked, limited, chain, skip}
-use Rattle.examples.proofs.Right.{closes-right, says-right, table-right}
+use Rattle.examples.specs.Rows.{Row, answers, says, closes, told, untold, reads, tooDeep, evaluated, unevaluated, Holding, Each}
+use Rattle.examples.proofs.Tests.{lawful, met, firstClosed, verdict, wellFormed, marks, enough, asked, limited, chain, skip}
+use Rattle.examples.proofs.Right.{different-right, closes-right, says-right, table-right}
+use Rattle.examples.proofs.Places.{places-enough, places-few}
 use Rattle.examples.proofs.Texts.{reads-right, deep-right}
 
 -- The row of number i passes its tests, or it does not. Of a text also: its tokens, its nodes; where it stops, what is left there, with the levels.
@@ -45,33 +47,37 @@ abbrev chained : List ℕ → List Mark
 chained text = whole (chain (kinds (tokens 0 0 text)))
 
 abbrev outcome : ℕ → Row → Outcome
-outcome i (answers level fault preAlarm alarm question told) = found i (Bool·beq (getD (bands level fault preAlarm alarm) question false) told)
-outcome i (says k f told) = found i (lawful 32 k && (enough k f && Bool·beq told (marks k f (k .initial))))
+outcome i (answers level fault preAlarm alarm question said) = found i (Bool·beq (getD (bands level fault preAlarm alarm) question false) said)
+outcome i (says k f said) = found i (lawful 32 k && (enough k f && Bool·beq said (marks k f (k .initial))))
 outcome i (closes a b v k) = found i (lawful 32 a && (lawful 32 b && (firstClosed a b k && verdict a b v k)))
 outcome i (reads text ns) =
     readAs (leb (length text) 4096 && (leb (length ns) 2045 && limited 32 (spelling 1 (root ns)))) (kinds (tokens 0 0 text)) (table (root ns))
 outcome i (tooDeep text place) =
     stops (leb (length text) 4096 && (ltb 64 (length (kinds (tokens 0 0 text))) && (limited 32 (take 64 (chained text)) && asked 32 (first (deepest text)))))
     (kinds (tokens 0 0 text)) (drop 64 (chained text)) (offset (deepest text))
+outcome i (told a b k places) = found i (not (met a b k) && leb (4 * total a b) (places + 3))
+outcome i (untold a b k places) = found i (not (met a b k) && ltb (places + 3) (4 * total a b))
 outcome i (evaluated ns w) = found i (wellFormed 32 ns && leb (4 * length ns) w)
 outcome i (unevaluated ns w) = found i (wellFormed 32 ns && ltb w (4 * length ns))
 
 abbrev claim : Row → Outcome
-claim (answers level fault preAlarm alarm question told) = fine
-claim (says k f told) = fine
+claim (answers level fault preAlarm alarm question said) = fine
+claim (says k f said) = fine
 claim (closes a b v k) = fine
 claim (reads text ns) = readAs true (toks (whole (root ns))) ns
 claim (tooDeep text place) = stops true (toks (chained text)) (mark (first (deepest text)) 65 ∷ drop 65 (chained text)) place
+claim (told a b k places) = fine
+claim (untold a b k places) = fine
 claim (evaluated ns w) = fine
 claim (unevaluated ns w) = fine
 
 right : (i : ℕ) (r : Row) → outcome i r ≡ claim r → Holding r
-right i (answers level fault preAlarm alarm question told) e =
-    beq-T (getD (bands level fault preAlarm alarm) question false) told .0 (passed i _ e)
-right i (says k f told) e =
-    let (x, u) = and-T (lawful 32 k) (enough k f && Bool·beq told (marks k f (k .initial))) .0 (passed i _ e) in
-    let (y, z) = and-T (enough k f) (Bool·beq told (marks k f (k .initial))) .0 u in
-    says-right k f told x y z
+right i (answers level fault preAlarm alarm question said) e =
+    beq-T (getD (bands level fault preAlarm alarm) question false) said .0 (passed i _ e)
+right i (says k f said) e =
+    let (x, u) = and-T (lawful 32 k) (enough k f && Bool·beq said (marks k f (k .initial))) .0 (passed i _ e) in
+    let (y, z) = and-T (enough k f) (Bool·beq said (marks k f (k .initial))) .0 u in
+    says-right k f said x y z
 right i (closes a b v k) e =
     let (x, u) = and-T (lawful 32 a) (lawful 32 b && (firstClosed a b k && verdict a b v k)) .0 (passed i _ e) in
     let (y, w) = and-T (lawful 32 b) (firstClosed a b k && verdict a b v k) .0 u in
@@ -99,6 +105,12 @@ right i (tooDeep text place) e =
     let (x, u) = and-T (ltb 64 (length (kinds s))) (limited 32 (take 64 ms) && asked 32 (first (skip 64 s))) .0 t in
     let (y, z) = and-T (limited 32 (take 64 ms)) (asked 32 (first (skip 64 s))) .0 u in
     deep-right text (chain (kinds s)) 64 place (drop 65 ms) w x y z b d o
+right i (told a b k places) e =
+    let (x, y) = and-T (not (met a b k)) (leb (4 * total a b) (places + 3)) .0 (passed i _ e) in
+    places-enough a b k places (different-right a b k .0 x) (leb-true (4 * total a b) (places + 3) (T-true (leb (4 * total a b) (places + 3)) .0 y))
+right i (untold a b k places) e =
+    let (x, y) = and-T (not (met a b k)) (ltb (places + 3) (4 * total a b)) .0 (passed i _ e) in
+    places-few a b k places (different-right a b k .0 x) (ltb-true (places + 3) (4 * total a b) (T-true (ltb (places + 3) (4 * total a b)) .0 y))
 right i (evaluated ns w) e =
     let (x, y) = and-T (wellFormed 32 ns) (leb (4 * length ns) w) .0 (passed i _ e) in
     let (s, f, o) = table-right 32 ns x in

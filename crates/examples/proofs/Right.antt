@@ -66,7 +66,7 @@ no-right : (x : Bool) (P : Type 0) → T x ↔ P → T (not x) ↔ (P → ⊥)
 no-right x P e = (λ n p. T-not x n (e .1 p), λ n. not-T x (λ t. n (e .0 t)))
 
 module _ (a b : Kripke) where
-  different-right : (k : ℕ) → T (not (met a b k)) ↔ ClosedDifferent a b k
+  pub different-right : (k : ℕ) → T (not (met a b k)) ↔ ClosedDifferent a b k
   different-right k = no-right (met a b k) _ (same-T a b k (a .initial) (b .initial))
 
   alike-right : (k : ℕ) → T (closedAlike a b k) ↔ ClosedAlike a b k

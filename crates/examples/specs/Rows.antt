@@ -13,6 +13,7 @@ use Rattle.kripke.specs.declared.refusal.Cause.the-variants as cause
 use Rattle.kripke.specs.declared.refusal.Layer.the-variants as layer
 use Rattle.labels.specs.Kinds.{bands}
 use Rattle.reader.specs.Breaches.{Breach, Sooner, Reads}
+use Rattle.compare.specs.Breaches.{FormulaBreach}
 use Rattle.evaluator.specs.Breaches as evaluation
 
 pub data Verdict : Type 0 where
@@ -28,6 +29,9 @@ pub data Row : Type 0 where
   -- the text is read as a formula of these nodes; it is refused at this offset, as too deep
   reads : List ℕ → List Node → Row
   tooDeep : List ℕ → ℕ → Row
+  -- so many places are enough for the formula, after k rounds that closed the comparison as different; so many are refused
+  told : Kripke → Kripke → ℕ → ℕ → Row
+  untold : Kripke → Kripke → ℕ → ℕ → Row
   -- so many words are enough to evaluate the table; so many are refused
   evaluated : List Node → ℕ → Row
   unevaluated : List Node → ℕ → Row
@@ -56,11 +60,13 @@ pub record Read (text : List ℕ) (ns before : List Node) : Type 0 where
   pub read : Reads text 32 before (ns ++ drop (length ns) before) (length ns)
 
 abbrev pub Holding : Row → Type 0
-Holding (answers level fault preAlarm alarm question told) = getD (bands level fault preAlarm alarm) question false ≡ told
-Holding (says k f told) = Lawful 32 k × Is told (Holds k f (k .initial))
+Holding (answers level fault preAlarm alarm question said) = getD (bands level fault preAlarm alarm) question false ≡ said
+Holding (says k f said) = Lawful 32 k × Is said (Holds k f (k .initial))
 Holding (closes a b v k) = Closes a b v k
 Holding (reads text ns) = (before : List Node) → length ns ≤ length before → Read text ns before
 Holding (tooDeep text place) = (places : ℕ) → FirstBy Sooner (Breach text 32 places) layer.Text (record { cause = cause.TooDeep; layer = layer.Text; place = place })
+Holding (told a b k places) = Clean (FormulaBreach a b k places)
+Holding (untold a b k places) = First (FormulaBreach a b k places) layer.Comparison (record { cause = cause.FewPlaces; layer = layer.Comparison; place = places })
 Holding (evaluated ns w) = Clean (evaluation.Breach 32 ns w)
 Holding (unevaluated ns w) = First (evaluation.Breach 32 ns w) layer.Evaluation (record { cause = cause.FewWords; layer = layer.Evaluation; place = w })
 

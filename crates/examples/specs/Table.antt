@@ -9,7 +9,7 @@ use Rattle.kripke.specs.Structure.{Kripke, State}
 use Rattle.kripke.specs.Ctl.{question, EF, AF, AG}
 use Rattle.kripke.specs.declared.node.Node.{Node}
 use Rattle.labels.specs.Kinds.{bits}
-use Rattle.examples.specs.Rows.{Row, answers, says, closes, reads, tooDeep, evaluated, unevaluated, alike, different}
+use Rattle.examples.specs.Rows.{Row, answers, says, closes, told, untold, reads, tooDeep, evaluated, unevaluated, alike, different}
 
 -- A state: its signal word and its successors. A structure begins at its state 0.
 abbrev pub to : ℕ → List ℕ → State
@@ -62,6 +62,8 @@ table =
     ∷ says W (AF (question 0)) false
     ∷ closes L L alike 1
     ∷ closes L S different 2
+    ∷ told L S 2 13
+    ∷ untold L S 2 12
     ∷ closes P R different 2
     ∷ closes L M different 0
     ∷ reads (codes "E[q0 U (q1&!q2)]") until

@@ -6,6 +6,8 @@ use Prim.Native.Nat.{ℕ}
 use lib.Dec.{eqb}
 use lib.ListN.{take, drop}
 use Rattle.std.specs.Of.Vec.{vec-items}
+use Rattle.std.specs.Vec.{made}
+use Rattle.std.specs.declared.alloc.AllocError.{AllocError}
 use Rattle.std.specs.declared.alloc.Global.{Global}
 use Rattle.std.specs.declared.result.Result.{Result}
 use Rattle.std.specs.declared.result.Result.the-variants.{Ok, Err}
@@ -59,6 +61,10 @@ Compared c q first second (Err Memory) = Unit {0}
 -- The line that tells a refusal.
 abbrev pub refusedText : Refusal → List ℕ
 refusedText e = toldAs e ++ (lineFeed ∷ [])
+
+abbrev pub Tells : Error → Result (Vec ℕ Global) AllocError → Type 0
+Tells (Refused e) r = made r (λ text. vec-items text ≡ refusedText e)
+Tells Memory r = made r (λ _. ⊥)
 
 -- The text that the job tells.
 pub data Told (c : Coding) (q : ℕ) (first second : List ℕ) : List ℕ → Type 0 where

@@ -1,5 +1,6 @@
 -- What is reported of two models.
 use mathlib.Core.List.{List}
+use mathlib.Core.Path.{_≡_}
 use Prim.Native.Nat.{ℕ, _≤_}
 use Rattle.std.specs.Of.Vec.{vec-items}
 use Rattle.std.specs.declared.alloc.Global.{Global}
@@ -26,3 +27,9 @@ abbrev pub Reported : ℕ → Kripke → Kripke → Result (Vec ℕ Global) Erro
 Reported q a b (Ok text) = Reports q a b (vec-items text)
 Reported q a b (Err (Refused e)) = ⊥
 Reported q a b (Err Memory) = Unit {0}
+
+-- Bytes that hold the text, unless memory is wanting.
+abbrev pub Spelt : List ℕ → Result (Vec ℕ Global) Error → Type 0
+Spelt text (Ok bytes) = vec-items bytes ≡ text
+Spelt text (Err (Refused e)) = ⊥
+Spelt text (Err Memory) = Unit {0}

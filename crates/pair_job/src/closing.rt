@@ -1,8 +1,11 @@
+ghost use Prim.Native.Nat.{_≤_};
 ghost use Rattle.compare.specs.Calls.{Same, first, questions, rounds, second};
-ghost use Rattle.kripke.specs.Refusals.{Judged};
 ghost use Rattle.kripke.specs.Rounds.{FirstClosed};
 ghost use Rattle.kripke.specs.Structure.{Lawful};
-ghost use Rattle.pair_job.specs.Reports.{Reported};
+ghost use Rattle.pair_job.specs.Reports.{Reported, Spelt};
+ghost use Rattle.report.specs.Text.{alikeText, differText};
+ghost use Rattle.report.specs.declared.report.Report.the-variants.{Alike};
+ghost use lib.ListN.{length};
 ghost use mathlib.Core.Path.{_≡_};
 use compare::comparison::Comparison;
 use compare::verdict::Outcome;
@@ -25,6 +28,26 @@ fn close(comparison: &mut Comparison)
     while comparison.round().is_ok() {}
 }
 
+fn alike<'a>(rounds: u16) -> Report<'a>
+    ensures { λ r. ⌜ r ≡ Alike rounds ⌝ }
+{
+    Report::Alike { rounds }
+}
+
+// The texts of the two reports.
+fn alike_text(heap: Global, rounds: u16) -> Result<Vec<u8>, Error>
+    ensures { λ r. ⌜ Spelt (alikeText rounds) r ⌝ }
+{
+    report_text(heap, alike(rounds))
+}
+
+fn different_text(heap: Global, rounds: u16, nodes: &[Node]) -> Result<Vec<u8>, Error>
+    requires { ⌜ length (now nodes) ≤ 2045 ⌝ }
+    ensures { λ r. ⌜ Spelt (differText rounds (now (nodes .entry))) r ⌝ }
+{
+    report_text(heap, Report::Different { rounds, nodes })
+}
+
 // The report of a comparison that is closed.
 fn tell(heap: Global, comparison: &Comparison) -> Result<Vec<u8>, Error>
     requires first { ⌜ Lawful (questions (now comparison)) (first (now comparison)) ⌝ }
@@ -35,12 +58,11 @@ fn tell(heap: Global, comparison: &Comparison) -> Result<Vec<u8>, Error>
     let verdict = comparison.verdict()?;
     let rounds = verdict.rounds as u16;
     match verdict.outcome {
-        Outcome::Alike => report_text(heap, Report::Alike { rounds }),
+        Outcome::Alike => alike_text(heap, rounds),
         Outcome::Different => {
             let mut places = [Node { code: 0, a: 0, b: 0 }; 2045];
             let count = comparison.formula(&mut places)?;
-            let nodes = &places[0..count];
-            report_text(heap, Report::Different { rounds, nodes })
+            different_text(heap, rounds, &places[0..count])
         }
     }
 }

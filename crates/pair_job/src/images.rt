@@ -1,7 +1,14 @@
 ghost use Prim.Native.Nat.{min};
-ghost use Rattle.image.specs.Image.{whole};
+ghost use Rattle.image.specs.Image.{kindOf, whole};
 ghost use lib.ListN.{length};
 ghost use mathlib.Core.Path.{_≡_};
+
+// The kind byte of the first image, 0 where there is none.
+pub(crate) fn kind(input: &[u8]) -> u8
+    ensures { λ r. ⌜ r ≡ kindOf (now (input .entry)) ⌝ }
+{
+    if input.len() > 0 { input[0] } else { 0 }
+}
 
 // Where the first image ends: as far on as its header asks for, or at the end of a shorter input.
 pub(crate) fn first_length(input: &[u8]) -> usize
