@@ -26,12 +26,20 @@ use std::alloc::Global;
 pub fn refusal(cause: Cause, place: usize) -> Refusal
     ensures { λ r. ⌜ r ≡ record { cause = cause; layer = layer.Comparison; place = place } ⌝ }
 {
-    Refusal { cause, layer: Layer::Comparison, place }
+    Refusal {
+        cause,
+        layer: Layer::Comparison,
+        place,
+    }
 }
 
 impl Comparison {
     // Opens the comparison of two models of one label kind. It refuses nothing: want of memory is its only error.
-    pub fn open<L: Label, M: Model<Label = L>, N: Model<Label = L>>(heap: Global, first: &M, second: &N) -> Result<Comparison, AllocError>
+    pub fn open<L: Label, M: Model<Label = L>, N: Model<Label = L>>(
+        heap: Global,
+        first: &M,
+        second: &N,
+    ) -> Result<Comparison, AllocError>
         ensures { λ r. ⌜ made r (λ c. Opened (L·Label .count) (M·Model .meaning (now (first .entry))) (N·Model .meaning (now (second .entry))) c) ⌝ }
     {
         let stages = Refinement::open(heap, first, second)?;
@@ -71,9 +79,15 @@ impl Comparison {
     {
         let rounds = self.stages.rounds;
         if differs(&self.stages) {
-            Ok(Verdict { rounds, outcome: Outcome::Different })
+            Ok(Verdict {
+                rounds,
+                outcome: Outcome::Different,
+            })
         } else if self.stages.rests {
-            Ok(Verdict { rounds, outcome: Outcome::Alike })
+            Ok(Verdict {
+                rounds,
+                outcome: Outcome::Alike,
+            })
         } else {
             Err(refusal(Cause::OpenComparison, rounds))
         }

@@ -14,7 +14,8 @@ pub fn differs(stages: &Refinement) -> bool
     ensures { λ r. ⌜ r ≡ not (level (first (now (stages .entry))) (second (now (stages .entry))) (now (stages .entry) .rounds)) ⌝ }
 {
     let low = stages.pair.first.rows.len();
-    stages.parts.class[stages.pair.first.initial] != stages.parts.class[low + stages.pair.second.initial]
+    stages.parts.class[stages.pair.first.initial]
+        != stages.parts.class[low + stages.pair.second.initial]
 }
 
 // Is the comparison closed: as different, or as alike since the last round split nothing?
@@ -33,6 +34,10 @@ pub fn keep(stages: &Refinement, formula: &mut Vec<Node>)
     formula.clear();
     if differs(stages) {
         let c = stages.parts.class[stages.pair.first.initial];
-        prune(&stages.parts, stages.parts.node[c as usize] as usize, formula);
+        prune(
+            &stages.parts,
+            stages.parts.node[c as usize] as usize,
+            formula,
+        );
     }
 }

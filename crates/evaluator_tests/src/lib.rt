@@ -3,6 +3,9 @@
 #[cfg(test)]
 mod tests {
     use evaluator::evaluate;
+    use image::slot::Slot;
+    use image::stored::StoredModel;
+    use image::stored::StoredModelModel;
     use kripke::model::Model;
     use kripke::node::Node;
     use labels::signal::SignalWord;
@@ -10,9 +13,6 @@ mod tests {
     use labels::signal::SignalWordDebug;
     use labels::signal::SignalWordLabel;
     use labels::signal::SignalWordPartialEq;
-    use image::slot::Slot;
-    use image::stored::StoredModel;
-    use image::stored::StoredModelModel;
     use rules::model::RuleModel;
     use rules::model::RuleModelModel;
     use rules::rule::Rule;

@@ -2,6 +2,9 @@
 
 #[cfg(test)]
 mod tests {
+    use image::slot::Slot;
+    use image::stored::StoredModel;
+    use image::stored::StoredModelModel;
     use kripke::label::Label;
     use kripke::model::Model;
     use kripke::refusal::Error;
@@ -13,9 +16,6 @@ mod tests {
     use labels::signal::SignalWordDebug;
     use labels::signal::SignalWordLabel;
     use labels::signal::SignalWordPartialEq;
-    use image::slot::Slot;
-    use image::stored::StoredModel;
-    use image::stored::StoredModelModel;
     use std::alloc::AllocError;
     use std::alloc::Global;
     use std::test::*;

@@ -135,8 +135,8 @@ tail-unique : (n : ℕ) (o : Opening) (m : Middle o .A) (f g : Formula) → Uniq
     → UniqueAt (Tail n (head.Binary o)) (Opened o .any, (f, (m, (g, tt))))
 tail-unique n o m f g uf ug =
     seq-unique (Opened o) (Arguments n o) (Opened o .any) (f, (m, (g, tt))) (opened-unique o (Opened o .any))
-      (seq-unique (Form n) (Second n o) f (m, (g, tt)) uf
-        (seq-unique (Middle o) (Last n o) m (g, tt) (middle-unique o m) (seq-unique (Form n) (Signed (closing o)) g tt ug (exact-unique (token.Sign (closing o)) tt))))
+    (seq-unique (Form n) (Second n o) f (m, (g, tt)) uf
+    (seq-unique (Middle o) (Last n o) m (g, tt) (middle-unique o m) (seq-unique (Form n) (Signed (closing o)) g tt ug (exact-unique (token.Sign (closing o)) tt))))
 
 pub unique : (f : Formula) (l : ℕ) → UniqueAt (Form l) f
 unique = induction (λ f. (l : ℕ) → UniqueAt (Form l) f)

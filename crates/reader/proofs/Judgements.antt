@@ -30,10 +30,10 @@ Is e k p = (e .cause ≡ k) × (e .layer ≡ layer.Text) × (e .place ≡ p)
 
 first-by : (V : Cause → ℕ → Type 0) (e : Refusal) (k : Cause) (p : ℕ) → Is e k p → V k p → ((d : Cause) (q : ℕ) → Sooner d q k p → V d q → ⊥) → FirstBy Sooner V layer.Text e
 first-by V e k p is b l = record {
-    broken = subst (V (e .cause)) (sym (is .2)) (subst (λ (x : Cause). V x p) (sym (is .0)) b);
-    least = λ d q so v. l d q (subst (Sooner d q k) (is .2) (subst (λ (x : Cause). Sooner d q x (e .place)) (is .0) so)) v;
-    layered = is .1
-  }
+  broken = subst (V (e .cause)) (sym (is .2)) (subst (λ (x : Cause). V x p) (sym (is .0)) b);
+  least = λ d q so v. l d q (subst (Sooner d q k) (is .2) (subst (λ (x : Cause). Sooner d q x (e .place)) (is .0) so)) v;
+  layered = is .1;
+}
 
 pub limits-told : (text : List ℕ) (q places : ℕ) (e : Refusal) → (4096 < length text) ⊎ ((q ≡ 0) ⊎ (32 < q)) → Is e cause.TextLimits 0 → FirstBy Sooner (Breach text q places) layer.Text e
 limits-told text q places e h is = first-by (Breach text q places) e cause.TextLimits 0 is (⊎-elim long unlimited h) least
@@ -42,9 +42,11 @@ limits-told text q places e h is = first-by (Breach text q places) e cause.TextL
     never n m (inl a) = omega arith
     never n m (inr (a, inl b)) = omega arith
     never n m (inr (a, inr b)) = omega (arith, b .1)
+
     late : (n k p : ℕ) → 0 < n → (n < 0) ⊎ ((n ≡ 0) × ((p < 0) ⊎ ((p ≡ 0) × (k < 9)))) → ⊥
     late n k p l (inl a) = omega arith
     late n k p l (inr a) = omega (arith, a .0)
+
     least : (d : Cause) (p : ℕ) → Sooner d p cause.TextLimits 0 → Breach text q places d p → ⊥
     least d p so (long g) = never 0 0 so
     least d p so (unlimited g) = never 0 0 so
@@ -61,6 +63,7 @@ module _ (text : List ℕ) (q places : ℕ) (lim : Limited text q) (f : Formula)
       same p n e (inl a) = omega arith
       same p n e (inr (a, inl b)) = omega arith
       same p n e (inr (a, inr b)) = omega (arith, b .1)
+
       least : (d : Cause) (p : ℕ) → Sooner d p cause.ManyNodes (length (table f)) → Breach text q places d p → ⊥
       least d p so (many g i l) = same (length (table g)) (length (table f)) (ap (λ x. length (table x)) (one-formula text g f i is)) so
       least d p so (long g) = spotless text q places lim f is wi d p (omega arith) (long g)
@@ -77,16 +80,17 @@ read-again text q before after n none (Err e) lim w a b z = absurd (not-both tex
 read-again text q before after n none (Ok m) lim w a b z =
     let f : Formula = z .formula in
     let same : length (table (w .formula)) ≡ length (table f) = ap (λ x. length (table x)) (one-formula text (w .formula) f (w .sentence) (z .sentence)) in
-    let l : length (table f) ≡ n = sym same ∙ sym (w .counted) in
-    ( clean text q (length before) lim f (z .sentence) (z .within) (omega arith) (omega arith)
-    , record {
+    let l : length (table f) ≡ n = sym same ∙ sym (w .counted) in (
+      clean text q (length before) lim f (z .sentence) (z .within) (omega arith) (omega arith),
+      record {
         formula = f;
         sentence = z .sentence;
         within = z .within;
         only = λ g h. one-formula text g f h (z .sentence);
         counted = z .counted;
         written = z .written ∙ laid-whole before 0 (table f) (omega arith)
-          ∙ (let e : 0 + length (table f) ≡ m = omega (arith, z .counted) in ap (λ (k : ℕ). table f ++ drop k before) e);
+            ∙ (let e : 0 + length (table f) ≡ m = omega (arith, z .counted) in ap (λ (k : ℕ). table f ++ drop k before) e);
         rooted = root-is f;
-        ordered = well-formed q f (z .within)
-      } )
+        ordered = well-formed q f (z .within);
+      },
+    )

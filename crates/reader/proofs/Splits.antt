@@ -41,16 +41,16 @@ question-split [] j n h p e = absurd (omega arith)
 question-split (b ∷ bs) j n h p e =
     let same = take-rest (b ∷ bs) 1 in
     from-lex (b ∷ bs) (Question j) (suc n) _
-      (cond-true (eqb b 113) (asking (numeral bs)) (acting b (operator (b ∷ bs))) (eq-eqb b 113 p) ∙ ap asking (sym (e ∙ ap numeral same)))
-      (take-rest (take (length (b ∷ bs) - 1) bs) n ∙ ap (λ (l : List ℕ). drop n l) same)
+    (cond-true (eqb b 113) (asking (numeral bs)) (acting b (operator (b ∷ bs))) (eq-eqb b 113 p) ∙ ap asking (sym (e ∙ ap numeral same)))
+    (take-rest (take (length (b ∷ bs) - 1) bs) n ∙ ap (λ (l : List ℕ). drop n l) same)
 
 pub stray-split : (ts : List ℕ) → 1 ≤ length ts → getD ts 0 0 ≡ 113 → None ≡ numeral (take (length ts - 1) (drop 1 ts)) → Splits ts Other (take (length ts - 1) (drop 1 ts))
 stray-split [] h p e = absurd (omega arith)
 stray-split (b ∷ bs) h p e =
     let same = take-rest (b ∷ bs) 1 in
     from-lex (b ∷ bs) Other 1 _
-      (cond-true (eqb b 113) (asking (numeral bs)) (acting b (operator (b ∷ bs))) (eq-eqb b 113 p) ∙ ap asking (sym (e ∙ ap numeral same)))
-      same
+    (cond-true (eqb b 113) (asking (numeral bs)) (acting b (operator (b ∷ bs))) (eq-eqb b 113 p) ∙ ap asking (sym (e ∙ ap numeral same)))
+    same
 
 none-mapped : (o : Option Unary) (l : List ℕ) → None ≡ mapped {U = Unary × List ℕ} (λ u. (u, l)) o → o ≡ None
 none-mapped None l e = refl
@@ -61,6 +61,6 @@ pub sign-split : (ts : List ℕ) (t : Token) → 1 ≤ length ts → (getD ts 0 
 sign-split [] t h p e q = absurd (omega arith)
 sign-split (b ∷ bs) t h p e q =
     from-lex (b ∷ bs) t 1 _
-      (cond-false (eqb b 113) (asking (numeral bs)) (acting b (operator (b ∷ bs))) (ne-eqb b 113 p)
-        ∙ ap (acting b) (none-mapped (operator (b ∷ bs)) (drop 2 (b ∷ bs)) e) ∙ ap (λ (z : Token). (z, 1)) (sym q))
-      (take-rest (b ∷ bs) 1)
+    (cond-false (eqb b 113) (asking (numeral bs)) (acting b (operator (b ∷ bs))) (ne-eqb b 113 p)
+    ∙ ap (acting b) (none-mapped (operator (b ∷ bs)) (drop 2 (b ∷ bs)) e) ∙ ap (λ (z : Token). (z, 1)) (sym q))
+    (take-rest (b ∷ bs) 1)

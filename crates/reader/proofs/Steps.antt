@@ -37,11 +37,11 @@ tells s k e n at h g = record { here = omega (arith, g .2); layered = g .1; caus
 -- A sign.
 pub sign-taken : (s s′ : Stream) (g : Sign) → first s ≡ token.Sign g → rest s ≡ s′ → (c : ℕ) → Taken {R = Unit {0}} (Signed g) (λ _ _. Unit {0}) c s tt s′
 sign-taken s s′ g e h c = record {
-    value = tt;
-    is = tt;
-    after = subst (λ (z : Stream). After s (token.Sign g ∷ []) z) h (one-on s (token.Sign g) e tt);
-    good = ((omega arith, tt), tt)
-  }
+  value = tt;
+  is = tt;
+  after = subst (λ (z : Stream). After s (token.Sign g ∷ []) z) h (one-on s (token.Sign g) e tt);
+  good = ((omega arith, tt), tt);
+}
 
 pub sign-refused : (s : Stream) (g : Sign) (e : Refusal) → (first s ≡ token.Sign g → ⊥) → Tells s cause.Unexpected e → (c : ℕ) → Refused (Signed g) c s e
 sign-refused s g e never z c = nothing-taken (Signed g) c s e (z .here) (z .layered) (z .caused) (λ y r v h. never (cc))
@@ -50,11 +50,11 @@ sign-refused s g e never z c = nothing-taken (Signed g) c s e (z .here) (z .laye
 pub link-taken : (s s′ : Stream) (k : Link) (n : ℕ) → first s ≡ token.Sign (linking k) → rest s ≡ s′ → n ≡ joinedCode Pair k → (c : ℕ)
     → Taken {R = ℕ} Linked (λ k n. n ≡ joinedCode Pair k) c s n s′
 link-taken s s′ k n e h is c = record {
-    value = k;
-    is = is;
-    after = subst (λ (z : Stream). After s (token.Sign (linking k) ∷ []) z) h (one-on s (token.Sign (linking k)) e tt);
-    good = ((omega arith, tt), tt)
-  }
+  value = k;
+  is = is;
+  after = subst (λ (z : Stream). After s (token.Sign (linking k) ∷ []) z) h (one-on s (token.Sign (linking k)) e tt);
+  good = ((omega arith, tt), tt);
+}
 
 pub link-refused : (s : Stream) (e : Refusal) → (first s ≡ token.Sign sign.And → ⊥) → (first s ≡ token.Sign sign.Or → ⊥) → Tells s cause.Unexpected e → (c : ℕ) → Refused Linked c s e
 link-refused s e never never′ z c = nothing-taken Linked c s e (z .here) (z .layered) (z .caused) go
@@ -94,32 +94,32 @@ not-begun c l s e n z = nothing-taken (Form l) c s e (z .here) (z .layered) (z .
 
 pub unasked-begun : (c l : ℕ) (s : Stream) (e : Refusal) (j : ℕ) → first s ≡ token.Question j → c ≤ j → Tells s cause.QuestionNumber e → Refused (Form l) c s e
 unasked-begun c l s e j h le z = record {
-    pre = [];
-    w = marks l (question j);
-    value = question j;
-    at = s;
-    after = refl;
-    good = tt;
-    spelt = refl;
-    here = z .here;
-    layered = z .layered;
-    why = subst (λ (k : Cause). Why (Form l) c [] (marks l (question j)) (first s) k) (sym (z .caused)) (unasked [] l j (ap (λ t. mark t l ∷ []) (sym h)) h le)
-  }
+  pre = [];
+  w = marks l (question j);
+  value = question j;
+  at = s;
+  after = refl;
+  good = tt;
+  spelt = refl;
+  here = z .here;
+  layered = z .layered;
+  why = subst (λ (k : Cause). Why (Form l) c [] (marks l (question j)) (first s) k) (sym (z .caused)) (unasked [] l j (ap (λ t. mark t l ∷ []) (sym h)) h le);
+}
 
 pub deep-begun : (c : ℕ) (s : Stream) (e : Refusal) (h : Head) → first s ≡ opening h → Asked c (opening h) → Tells s cause.TooDeep e → Refused (Form 65) c s e
 deep-begun c s e h g ok z = record {
-    pre = [];
-    w = marks 65 f;
-    value = f;
-    at = s;
-    after = refl;
-    good = tt;
-    spelt = refl;
-    here = z .here;
-    layered = z .layered;
-    why = subst (λ (k : Cause). Why (Form 65) c [] (marks 65 f) (first s) k) (sym (z .caused))
-      (deep (Tail 66 h .mk (Tail 66 h .any)) (built-marks 65 h (Tail 66 h .any) ∙ ap (λ t. mark t 65 ∷ Tail 66 h .mk (Tail 66 h .any)) (sym g)) (subst (Asked c) (sym g) ok))
-  }
+  pre = [];
+  w = marks 65 f;
+  value = f;
+  at = s;
+  after = refl;
+  good = tt;
+  spelt = refl;
+  here = z .here;
+  layered = z .layered;
+  why = subst (λ (k : Cause). Why (Form 65) c [] (marks 65 f) (first s) k) (sym (z .caused))
+      (deep (Tail 66 h .mk (Tail 66 h .any)) (built-marks 65 h (Tail 66 h .any) ∙ ap (λ t. mark t 65 ∷ Tail 66 h .mk (Tail 66 h .any)) (sym g)) (subst (Asked c) (sym g) ok));
+}
   where
     f : Formula
     f = built 66 h (Tail 66 h .any)

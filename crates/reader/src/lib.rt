@@ -15,7 +15,9 @@ mod token;
 
 // The most bytes of a text, the most questions of a kind, and the most nodes of a table.
 const TEXT_BYTES: usize = 4096;
+
 const QUESTIONS: usize = 32;
+
 const NODES: usize = 2045;
 
 // Reads the text as a formula on the given number of questions: writes its nodes from the first place on, and gives their number.

@@ -1,4 +1,7 @@
 // Reads one image from standard input and prints the model that it describes, or why it is refused.
+use image::slot::Slot;
+use image::stored::StoredModel;
+use image::stored::StoredModelModel;
 use kripke::label::Label;
 use kripke::model::Model;
 use kripke::refusal::Error;
@@ -10,9 +13,6 @@ use labels::reading::ReadingLabel;
 use labels::signal::SignalWord;
 use labels::signal::SignalWordCoded;
 use labels::signal::SignalWordLabel;
-use image::slot::Slot;
-use image::stored::StoredModel;
-use image::stored::StoredModelModel;
 use std::io;
 use std::io::Read;
 

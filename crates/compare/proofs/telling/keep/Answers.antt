@@ -28,11 +28,13 @@ returns-then-differs c =
     record {
       kept = kept-some r (not-true _ (sym (c .differs .ensures) ∙ c .if-differs .taken)) (vec-items (c .prune .last .out))
           (subst (λ (q : ℕ). Pruned q (vec-items (r .parts .nodes)) (getD (r .parts .node) (getD (r .parts .class) (r .pair .first .initial) 0) 0) (vec-items (c .prune .last .out))) (r .asks) p);
-      room = c .prune .ensures .room }
+      room = c .prune .ensures .room;
+    }
 
 pub returns-else-differs : need.returns-else-differs
 returns-else-differs c =
     let r = c .args .stages .now in
     record {
       kept = kept-none r (not-false _ (sym (c .differs .ensures) ∙ c .if-differs .left)) _ (c .clear .ensures .items);
-      room = omega (arith, c .clear .ensures .capacity, c .pre) }
+      room = omega (arith, c .clear .ensures .capacity, c .pre);
+    }

@@ -52,8 +52,9 @@ returns-in-Ok-from-slice c =
     record {
       law = law-at s s _ _ _ _ (c .in-Formula .is) refl (told p (c .in-Ok-from-slice .v) (h .0)
           (subst (λ (ns : List Node). Separating (first s) (second s) (questions s) (rounds s) ns) (sym (c .in-Ok-from-slice .ensures tt .made .0 ∙ h .1))
-            (separating s (clean-level (first s) (second s) (rounds s) p (h .0)))));
-      same = same-still s s refl }
+          (separating s (clean-level (first s) (second s) (rounds s) p (h .0)))));
+      same = same-still s s refl;
+    }
 
 pub returns-in-Err-from-slice : need.returns-in-Err-from-slice
 returns-in-Err-from-slice c =

@@ -18,9 +18,11 @@ use Rattle.compare.proofs.comparison.Comparison.class.Needs as need
 
 pub returns-then-i-self : need.returns-then-i-self
 returns-then-i-self c =
-    let s = c .args .self .now in
-    (subst (λ (e : Refusal). First (ClassBreach (first s) (second s) (c .args .i)) layer.Comparison e) (sym (c .refusal .ensures))
-      (class-refused (first s) (second s) (c .args .i) (omega (arith, c .if-i-self .taken, s .stages .long))), tt)
+    let s = c .args .self .now in (
+      subst (λ (e : Refusal). First (ClassBreach (first s) (second s) (c .args .i)) layer.Comparison e) (sym (c .refusal .ensures))
+          (class-refused (first s) (second s) (c .args .i) (omega (arith, c .if-i-self .taken, s .stages .long))),
+      tt,
+    )
 
 pub returns : need.returns
 returns c =
@@ -34,5 +36,5 @@ returns c =
     let led : Led (total a b) (r .parts .class) = subst (λ (n : ℕ). Led n (r .parts .class)) (r .long) (r .parts .led) in
     let h : getD (r .parts .class) i 0 < total a b = omega (arith, low i l, l) in
     let z = class-by-formulas a b (first-lawful r .closed) (second-lawful r .closed) (r .rounds) i (getD (r .parts .class) i 0) l h .0
-        (class-of a b (r .rounds) (r .parts .class) (r .numbered) low led i l) in
+    (class-of a b (r .rounds) (r .parts .class) (r .numbered) low led i l) in
     (class-clean a b i l, record { inside = h; inseparable = z .0; least = z .1 })

@@ -18,10 +18,12 @@ write-requires c κs =
 pub returns : need.returns
 returns c =
     let s = c .args .self .now in
-    let h = c .in-Continue-nodes .ensures tt in
-    (h .0,
-     record {
-       separating = separating s (clean-level (first s) (second s) (rounds s) (length (c .args .places .now)) (h .0));
-       count = ap length (h .1);
-       front = c .write .ensures .front ∙ h .1;
-       rest = c .write .ensures .rest })
+    let h = c .in-Continue-nodes .ensures tt in (
+      h .0,
+      record {
+        separating = separating s (clean-level (first s) (second s) (rounds s) (length (c .args .places .now)) (h .0));
+        count = ap length (h .1);
+        front = c .write .ensures .front ∙ h .1;
+        rest = c .write .ensures .rest;
+      },
+    )

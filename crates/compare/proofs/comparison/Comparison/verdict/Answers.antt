@@ -13,17 +13,19 @@ use Rattle.compare.proofs.comparison.Comparison.verdict.Needs as need
 pub returns-then-differs : need.returns-then-differs
 returns-then-differs c =
     let s = c .args .self .now in
-    let e = not-true _ (sym (c .differs .ensures) ∙ c .if-differs .taken) in
-    (verdict-clean (first s) (second s) (rounds s) (inl (different-T (first s) (second s) (rounds s) e)),
-     decides-different (questions s) (first s) (second s) (first-lawful (s .stages)) (second-lawful (s .stages)) (rounds s) (s .open) e)
+    let e = not-true _ (sym (c .differs .ensures) ∙ c .if-differs .taken) in (
+      verdict-clean (first s) (second s) (rounds s) (inl (different-T (first s) (second s) (rounds s) e)),
+      decides-different (questions s) (first s) (second s) (first-lawful (s .stages)) (second-lawful (s .stages)) (rounds s) (s .open) e,
+    )
 
 pub returns-then-self : need.returns-then-self
 returns-then-self c =
     let s = c .args .self .now in
     let e = not-false _ (sym (c .differs .ensures) ∙ c .if-differs .left) in
-    let r = sym (s .stages .last) ∙ c .if-self .taken in
-    (verdict-clean (first s) (second s) (rounds s) (inr (alike-T (first s) (second s) (rounds s) e r)),
-     decides-alike (questions s) (first s) (second s) (first-lawful (s .stages)) (second-lawful (s .stages)) (rounds s) (s .open) e r)
+    let r = sym (s .stages .last) ∙ c .if-self .taken in (
+      verdict-clean (first s) (second s) (rounds s) (inr (alike-T (first s) (second s) (rounds s) e r)),
+      decides-alike (questions s) (first s) (second s) (first-lawful (s .stages)) (second-lawful (s .stages)) (rounds s) (s .open) e r,
+    )
 
 pub returns-else-self : need.returns-else-self
 returns-else-self c =

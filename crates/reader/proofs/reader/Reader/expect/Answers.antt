@@ -17,5 +17,5 @@ returns-else-is-sign c =
     record {
       moved = record { standing = c .token-token .ensures .standing; forward = z .forward; used = z .used };
       owes = sign-refused (view (c .args .self .now)) (c .args .sign) _ (λ e. c .if-is-sign .ensures tt (sym (z .is) ∙ e))
-        (tells _ _ _ _ _ (z .here) (c .refusal .ensures));
+          (tells _ _ _ _ _ (z .here) (c .refusal .ensures));
     }

@@ -34,7 +34,7 @@ returns-then-levels-eq0 c =
       moved = record { standing = c .token-token .ensures .standing; forward = z .forward; used = z .used };
       onward = tt;
       begins = λ l e.
-        let is : 65 ≡ l = omega arith in
-        subst (λ (i : ℕ). Refused (Form i) (c .args .questions) (view (c .args .self .now)) (c .refusal-then-levels-eq0 .result)) is
+          let is : 65 ≡ l = omega arith in
+          subst (λ (i : ℕ). Refused (Form i) (c .args .questions) (view (c .args .self .now)) (c .refusal-then-levels-eq0 .result)) is
           (deep-begun (c .args .questions) (view (c .args .self .now)) (c .refusal-then-levels-eq0 .result) (c .in-Some .head) (z .is ∙ sym forth) (c .if-not-asked .ensures tt) (tells _ _ _ _ _ (z .here) (c .refusal-then-levels-eq0 .ensures)));
     }

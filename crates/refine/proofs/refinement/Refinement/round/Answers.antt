@@ -30,15 +30,28 @@ ghost-self c =
     let k : ℕ = r .rounds in
     let d = c .round .ensures .rounded in
     let k1 : suc k ≡ k + 1 = sym (add-one k) in
-    let pace : suc k ≤ p .count = subst (λ (z : Bool). cond z k (suc k) ≤ p .count) (c .if-not-self .taken) (r .pace) in
-    (d .keeps .states ∙ r .long,
-    (d .keeps .questions ∙ r .asks,
-    (c .round .ensures .few,
-    (exact-told (both a b) q (d .exact (told-exact (both a b) p (r .told))),
-    (subst (λ (n : ℕ). Shallow n q) k1 (d .shallow k (r .shallow)),
-    (subst (λ (n : ℕ). Numbered a b n (q .class)) k1 (next-numbered a b la lb k p q (r .long) (r .numbered) d),
-    (subst (λ (n : ℕ). eqb (q .count) (p .count) ≡ rested a b n) k1 (next-rests a b la lb k p q (r .long) (r .numbered) d),
-    (subst (λ (n : ℕ). cond (eqb (q .count) (p .count)) n (suc n) ≤ q .count) k1 (next-pace a b la lb k p q (r .long) (r .numbered) d pace), tt))))))))
+    let pace : suc k ≤ p .count = subst (λ (z : Bool). cond z k (suc k) ≤ p .count) (c .if-not-self .taken) (r .pace) in (
+      d .keeps .states ∙ r .long,
+      (
+        d .keeps .questions ∙ r .asks,
+        (
+          c .round .ensures .few,
+          (
+            exact-told (both a b) q (d .exact (told-exact (both a b) p (r .told))),
+            (
+              subst (λ (n : ℕ). Shallow n q) k1 (d .shallow k (r .shallow)),
+              (
+                subst (λ (n : ℕ). Numbered a b n (q .class)) k1 (next-numbered a b la lb k p q (r .long) (r .numbered) d),
+                (
+                  subst (λ (n : ℕ). eqb (q .count) (p .count) ≡ rested a b n) k1 (next-rests a b la lb k p q (r .long) (r .numbered) d),
+                  (subst (λ (n : ℕ). cond (eqb (q .count) (p .count)) n (suc n) ≤ q .count) k1 (next-pace a b la lb k p q (r .long) (r .numbered) d pace), tt),
+                ),
+              ),
+            ),
+          ),
+        ),
+      ),
+    )
 
 pub returns : need.returns
 returns c =
@@ -46,7 +59,9 @@ returns c =
     let s : Refinement = c .if-not-self .self in
     record {
       stays = elim (c .if-not-self .came) [
-          then-not-self w ↦ subst (λ (z : Bool). When z (s ≡ r) ((s .pair ≡ r .pair) × (s .rounds ≡ suc (r .rounds)))) (sym (w .if-not-self .taken))
-              (ap (λ (x : Refinement). x .pair) (w .self-is), ap (λ (x : Refinement). x .rounds) (w .self-is) ∙ add-one (r .rounds))
-        | else-not-self w ↦ subst (λ (z : Bool). When z (s ≡ r) ((s .pair ≡ r .pair) × (s .rounds ≡ suc (r .rounds)))) (sym (w .if-not-self .left)) (w .self-is) ];
-      classes = classes-counted (first-of (s .pair)) (second-of (s .pair)) (s .rounds) (s .parts) (s .long) (s .numbered) }
+        | then-not-self w ↦ subst (λ (z : Bool). When z (s ≡ r) ((s .pair ≡ r .pair) × (s .rounds ≡ suc (r .rounds)))) (sym (w .if-not-self .taken))
+            (ap (λ (x : Refinement). x .pair) (w .self-is), ap (λ (x : Refinement). x .rounds) (w .self-is) ∙ add-one (r .rounds))
+        | else-not-self w ↦ subst (λ (z : Bool). When z (s ≡ r) ((s .pair ≡ r .pair) × (s .rounds ≡ suc (r .rounds)))) (sym (w .if-not-self .left)) (w .self-is)
+      ];
+      classes = classes-counted (first-of (s .pair)) (second-of (s .pair)) (s .rounds) (s .parts) (s .long) (s .numbered);
+    }
