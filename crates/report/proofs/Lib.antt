@@ -1,0 +1,4 @@
+pub mod Putting
+pub mod Lengths
+pub mod Lines
+pub mod Refused
