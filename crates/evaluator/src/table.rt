@@ -2,10 +2,8 @@ ghost use Prim.Native.Nat.{ℕ, _*_, _<_, _≤_};
 ghost use Rattle.evaluator.specs.Breaches.{Breach};
 ghost use Rattle.evaluator.specs.Rows.{at};
 ghost use Rattle.evaluator.specs.Marks.{Filled, Ready, marks};
-ghost use Rattle.kripke.specs.Nodes.{LawfulNode};
 ghost use Rattle.kripke.specs.Refusals.{Judged};
 ghost use Rattle.kripke.specs.declared.refusal.Layer.the-variants as layer;
-ghost use Rattle.std.specs.Orderings.{When};
 ghost use Rattle.std.specs.declared.result.Result.the-variants.{Err};
 ghost use lib.ListN.{length};
 ghost use mathlib.Core.Path.{_≡_};
@@ -17,20 +15,6 @@ use kripke::node::Node;
 use kripke::refusal::Cause;
 use kripke::refusal::Layer;
 use kripke::refusal::Refusal;
-
-// Whether node i of a table is in order.
-fn lawful(questions: usize, i: usize, node: Node) -> bool
-    ensures { λ r. ⌜ When r (LawfulNode questions i node) (LawfulNode questions i node → ⊥) ⌝ }
-{
-    let (a, b) = (node.a as usize, node.b as usize);
-    match node.code {
-        0 => a == 0 && b == 0,
-        1 => a < questions && b == 0,
-        2 | 5 | 6 | 7 | 8 | 9 | 10 => a < i && b == 0,
-        3 | 4 | 11 | 12 => a < i && b < i,
-        _ => false,
-    }
-}
 
 fn refuse(cause: Cause, place: usize) -> Result<(), Refusal>
     ensures { λ r. ⌜ r ≡ Err (record { cause = cause; layer = layer.Evaluation; place = place }) ⌝ }
@@ -50,7 +34,7 @@ pub(crate) fn check(questions: usize, nodes: &[Node], words: usize) -> Result<()
         return refuse(Cause::NodeCount, 0);
     }
     for i in 0..nodes.len() {
-        if !lawful(questions, i, nodes[i]) {
+        if !nodes[i].in_order(questions, i) {
             return refuse(Cause::BadNode, i);
         }
     }

@@ -23,6 +23,7 @@ use labels::reading::ReadingLabel;
 use labels::signal::SignalWord;
 use labels::signal::SignalWordCoded;
 use labels::signal::SignalWordLabel;
+use printer::print_formula;
 use std::alloc::Global;
 use std::fmt::Write;
 
@@ -134,12 +135,4 @@ pub fn compare(heap: Global, old: &[u8], new: &[u8]) -> Result<String, Failure> 
         Some(2) => of_kind::<Reading>(heap, old, new),
         _ => of_kind::<SignalWord>(heap, old, new),
     }
-}
-
-fn print_formula(
-    heap: Global,
-    nodes: &[Node],
-    questions: usize,
-) -> Result<Option<String>, std::alloc::AllocError> {
-    Ok(None)
 }

@@ -22,10 +22,10 @@ returns-then-is-empty c =
       tt,
     )
 
-pub returns-then-not-lawful : need.returns-then-not-lawful
-returns-then-not-lawful c =
-    rw (c .refuse-then-not-lawful .ensures)
-    (first-node _ _ _ (c .loop-i .i) (omega arith) (omega arith) (c .loop-i-test .taken) (c .if-not-lawful .ensures tt) (c .loop-i .inv), tt)
+pub returns-then-not-in-order : need.returns-then-not-in-order
+returns-then-not-in-order c =
+    rw (c .refuse-then-not-in-order .ensures)
+    (first-node _ _ _ (c .loop-i .i) (omega arith) (omega arith) (c .loop-i-test .taken) (c .if-not-in-order .ensures tt) (c .loop-i .inv), tt)
 
 pub returns-then-words-nodes : need.returns-then-words-nodes
 returns-then-words-nodes c =

@@ -1,0 +1,4 @@
+pub mod Spelling
+pub mod Writing
+pub mod Printed
+pub mod Theorems
