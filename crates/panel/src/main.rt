@@ -9,6 +9,8 @@ mod difference;
 mod failure;
 mod listing;
 mod task;
+#[cfg(test)]
+mod tests;
 mod trial;
 mod words;
 
