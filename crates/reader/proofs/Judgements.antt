@@ -17,12 +17,12 @@ use Rattle.kripke.specs.declared.refusal.Layer.the-variants as layer
 use Rattle.reader.specs.Tokens.{tokens}
 use Rattle.reader.specs.Grammar.{Sentence, Within}
 use Rattle.reader.specs.Table.{table, laid}
-use Rattle.reader.specs.Breaches.{Breach, long, unlimited, unexpected, unasked, deep, many, stage, Sooner, Reads, Readable, Complete}
+use Rattle.reader.specs.Breaches.{Breach, long, unlimited, unexpected, unasked, deep, many, stage, Sooner, Reads, Limited, Readable, Complete, Refuses}
 use Rattle.reader.specs.Reading.{Whole, Parsed}
 use Rattle.reader.proofs.Tables.{root-is}
 use Rattle.reader.proofs.Lawful.{well-formed}
 use Rattle.reader.proofs.Places.{laid-whole}
-use Rattle.reader.proofs.Verdicts.{Limited, one-formula, spotless, clean, not-both}
+use Rattle.reader.proofs.Verdicts.{one-formula, spotless, clean, not-both}
 
 -- What a refusal is made of.
 abbrev Is : Refusal → Cause → ℕ → Type 0
@@ -69,31 +69,30 @@ module _ (text : List ℕ) (q places : ℕ) (lim : Limited text q) (f : Formula)
       least d p so (unasked ts s j g i v l) = spotless text q places lim f is wi d p (omega arith) (unasked ts s j g i v l)
       least d p so (deep ts s g ps qs i k r) = spotless text q places lim f is wi d p (omega arith) (deep ts s g ps qs i k r)
 
--- A text that has been read once is read again.
-pub read-again : (text : List ℕ) (q : ℕ) (before after : List Node) (n : ℕ) (none : List Node) (r : Result ℕ Refusal) → Limited text q → Whole text q [] none n
-    → n ≤ length before → n ≤ 2045 → Parsed text q before after r
-    → JudgedBy Sooner (Breach text q (length before)) layer.Text (Reads text q before after) (after ≡ before) r
-read-again text q before after n none (Err e) lim w a b z = absurd (not-both text q (length before) lim e z (w .formula) (w .sentence) (w .within))
-read-again text q before after n none (Ok m) lim w a b z =
-    let f : Formula = z .formula in
-    let same : length (table (w .formula)) ≡ length (table f) = ap (λ x. length (table x)) (one-formula text (w .formula) f (w .sentence) (z .sentence)) in
-    let l : length (table f) ≡ n = sym same ∙ sym (w .counted) in
-    ( clean text q (length before) lim f (z .sentence) (z .within) (omega arith) (omega arith)
-    , record {
-        formula = f;
-        sentence = z .sentence;
-        within = z .within;
-        only = λ g h. one-formula text g f h (z .sentence);
-        counted = z .counted;
-        written = z .written ∙ laid-whole before 0 (table f) (omega arith)
-          ∙ (let e : 0 + length (table f) ≡ m = omega (arith, z .counted) in ap (λ (k : ℕ). table f ++ drop k before) e);
-        rooted = root-is f;
-        ordered = well-formed q f (z .within)
-      } )
+-- A text that is to be read is read.
+pub read-so : (text : List ℕ) (q : ℕ) (before after : List Node) (f : Formula) (r : Result ℕ Refusal) → Readable text q (length before) f → Parsed text q before after r
+    → JudgedBy Sooner (Breach text q (length before)) layer.Text (Reads text q before after) (after ≡ before) r × Complete text q (length before) r
+read-so text q before after f (Err e) w z = absurd (not-both text q (length before) (w .limited) e z f (w .sentence) (w .within))
+read-so text q before after f (Ok m) w z =
+    let g : Formula = z .formula in
+    let same : length (table f) ≡ length (table g) = ap (λ x. length (table x)) (one-formula text f g (w .sentence) (z .sentence)) in
+    let l = w .room in
+    let k = w .few in
+    ( ( clean text q (length before) (w .limited) g (z .sentence) (z .within) (omega arith) (omega arith)
+      , record {
+          formula = g;
+          sentence = z .sentence;
+          within = z .within;
+          only = λ h i. one-formula text h g i (z .sentence);
+          counted = z .counted;
+          written = z .written ∙ laid-whole before 0 (table g) (omega arith)
+            ∙ (let e : 0 + length (table g) ≡ m = omega (arith, z .counted) in ap (λ (k : ℕ). table g ++ drop k before) e);
+          rooted = root-is g;
+          ordered = well-formed q g (z .within)
+        } )
+    , tt )
 
--- What is judged so is read, if it is to be read.
-pub complete : (text : List ℕ) (q : ℕ) (before after : List Node) (Same : Type 0) (r : Result ℕ Refusal)
-    → JudgedBy Sooner (Breach text q (length before)) layer.Text (Reads text q before after) Same r → Complete text q (length before) r
-complete text q before after Same (Ok n) z f w = ap Ok (z .1 .counted ∙ ap (λ x. length (table x)) (sym (z .1 .only f (w .sentence))))
-complete text q before after Same (Err e) z f w =
-    absurd (clean text q (length before) (record { short = w .short; some = w .some; few = w .few }) f (w .sentence) (w .within) (w .room) (w .nodes) (e .cause) (e .place) (z .0 .broken))
+-- A text that breaks a rule is not to be read.
+pub refuses : (text : List ℕ) (q places : ℕ) (e : Refusal) → FirstBy Sooner (Breach text q places) layer.Text e → Refuses text q places e
+refuses text q places e z =
+    (z, λ f w. clean text q places (w .limited) f (w .sentence) (w .within) (w .room) (w .few) (e .cause) (e .place) (z .broken))

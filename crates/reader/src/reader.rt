@@ -2,6 +2,7 @@ ghost use Prim.Native.Nat.{ℕ, _+_, _≤_, _<_};
 ghost use Rattle.kripke.specs.declared.refusal.Layer.the-variants.{Text};
 ghost use Rattle.reader.specs.Phrases.{Begins, Form, Linked, Middle, Opened, Owes, Signed, closing, joinedCode};
 ghost use Rattle.reader.specs.Reading.{Grown, Laying, Moved, Next, Parsed, Standing, Trimmed, view};
+ghost use Rattle.reader.specs.Tokens.{Decided};
 ghost use Rattle.reader.specs.declared.head.Opening.the-variants.{Pair};
 ghost use Rattle.std.specs.Results.{Cases};
 ghost use lib.ListN.{length, set};
@@ -36,6 +37,13 @@ pub fn refusal(cause: Cause, place: usize) -> Refusal
     ensures { λ r. ⌜ (r .cause ≡ cause) × (r .layer ≡ Text) × (r .place ≡ place) ⌝ }
 {
     Refusal { cause, layer: Layer::Text, place }
+}
+
+// Whether no level is left.
+fn spent(levels: u8) -> bool
+    ensures { λ r. ⌜ Decided (levels ≡ 0) r ⌝ }
+{
+    levels == 0
 }
 
 impl<'a> Reader<'a> {
@@ -151,7 +159,7 @@ impl<'a> Reader<'a> {
         if !asked(head, questions) {
             return Err(refusal(Cause::QuestionNumber, place));
         }
-        if levels == 0 {
+        if spent(levels) {
             return Err(refusal(Cause::TooDeep, place));
         }
         Ok(head)
