@@ -15,16 +15,15 @@ use Rattle.std.proofs.shelf.Tests.{eq-eqb, ne-eqb, cond-true, cond-false}
 use Rattle.reader.specs.declared.token.Token.{Token}
 use Rattle.reader.specs.declared.token.Token.the-variants.{End}
 use Rattle.reader.specs.declared.token.Unary.{Unary}
-use Rattle.reader.specs.declared.token.Unary.the-variants.{EX, AX, EF, AF, EG, AG}
-use Rattle.reader.specs.Tokens.{Stream, done, next, offset, first, rest, digit, numeral, step, operator, asking, acting, lex, tokens}
+use Rattle.reader.specs.Tokens.{done, next, offset, first, rest, digit, numeral, operator, asking, acting, lex, tokens}
 use Rattle.reader.specs.Reading.{ahead, Trimmed}
 
 pub space-on : (text : List ℕ) (at : ℕ) → at < length text → getD text at 0 ≡ 32 → ahead text (at + 1) ≡ ahead text at
 unfolding tokens
 space-on text at h e =
     sym (ap (λ (l : List ℕ). tokens 0 at l) (drop-cons text at 0 h)
-      ∙ cond-true (eqb (getD text at 0) 32) (tokens 0 (suc at) (drop (suc at) text)) _ (eq-eqb (getD text at 0) 32 e)
-      ∙ ap (λ (n : ℕ). tokens 0 n (drop n text)) (sym (add-one at)))
+    ∙ cond-true (eqb (getD text at 0) 32) (tokens 0 (suc at) (drop (suc at) text)) _ (eq-eqb (getD text at 0) 32 e)
+    ∙ ap (λ (n : ℕ). tokens 0 n (drop n text)) (sym (add-one at)))
 
 skipped : (k o : ℕ) (bs : List ℕ) → k ≤ length bs → tokens k o bs ≡ tokens 0 (o + k) (drop k bs)
 unfolding tokens
@@ -44,7 +43,7 @@ numeral-fits (d ∷ e ∷ bs) = go (digit d) (leb 49 d && digit e)
   where
     go : (x y : Bool)
         → (asking (cond x (cond y (Some ((d - 48) * 10 + (e - 48), 2)) (Some (d - 48, 1))) None) .1 ≤ suc (suc (suc (length bs))))
-          × (1 ≤ asking (cond x (cond y (Some ((d - 48) * 10 + (e - 48), 2)) (Some (d - 48, 1))) None) .1)
+        × (1 ≤ asking (cond x (cond y (Some ((d - 48) * 10 + (e - 48), 2)) (Some (d - 48, 1))) None) .1)
     go true true = (omega arith, omega arith)
     go true false = (omega arith, omega arith)
     go false y = (omega arith, omega arith)
@@ -83,7 +82,7 @@ fronted o (b ∷ bs) h =
       here = ap offset e;
       after = ap rest e ∙ skipped (lex (b ∷ bs) .1 - 1) (suc o) bs (omega (arith, f .0, f .1)) ∙ moved (lex (b ∷ bs) .1) (f .1);
       fits = f .0;
-      some = λ l. f .1
+      some = λ l. f .1;
     }
   where
     moved : (n : ℕ) → 1 ≤ n → tokens 0 (suc o + (n - 1)) (drop (n - 1) bs) ≡ tokens 0 (o + n) (drop n (b ∷ bs))
@@ -143,8 +142,8 @@ module _ (text : List ℕ) (at at′ : ℕ) (t : Token) (left : List ℕ) (z : T
             after = ap rest (sym (z .same)) ∙ f .after ∙ ap (λ (l : List ℕ). tokens 0 (at′ + lex bs .1) l) (drop-drop (lex bs .1) at′ text) ∙ ap (λ (m : ℕ). ahead text m) to;
             here = omega arith;
             cut = (let w : length text - length left - at′ ≡ length (take (length text - length left - at′) bs) = omega arith in ap (λ (m : ℕ). take m bs) w)
-              ∙ ap (λ (m : ℕ). take (length (take (length text - length left - at′) bs)) (drop m text)) (sym o);
+                ∙ ap (λ (m : ℕ). take (length (take (length text - length left - at′) bs)) (drop m text)) (sym o);
             within = omega arith;
             forward = omega (arith, z .forward);
-            onward = λ never. omega (arith, z .forward, f .some (nonempty bs (λ empty. never (e ∙ ap (λ (l : List ℕ). lex l .0) (take-rest text at′ ∙ empty)))))
+            onward = λ never. omega (arith, z .forward, f .some (nonempty bs (λ empty. never (e ∙ ap (λ (l : List ℕ). lex l .0) (take-rest text at′ ∙ empty)))));
           }

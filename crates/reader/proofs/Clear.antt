@@ -1,6 +1,6 @@
 -- In a beginning of a formula's text within the limits nothing is refused.
 use mathlib.Core.Path.{_≡_, refl, sym, ap, _∙_, subst}
-use mathlib.Core.List.{List, [], _∷_, _++_, append-assoc, append-nil}
+use mathlib.Core.List.{List, [], _∷_, _++_, append-assoc}
 use Prim.Native.Nat.{ℕ, _≤_, _<_}
 use native.Mathlib.Omega.{arith}
 use Rattle.kripke.specs.Ctl.{Formula}
@@ -45,9 +45,9 @@ module _ (c : ℕ) (f : Formula) (ms w : List Mark) (al : All c ms) (e : ms ++ w
   not-deep g ps qs h k =
       let z = parted ms ts t m p in
       let same = same-levels f g (z .0 ++ (mark t (z .1) ∷ [])) (z .2 ++ w) (ps ++ (mark t 65 ∷ [])) qs
-          (append-assoc (z .0) (mark t (z .1) ∷ []) (z .2 ++ w) ∙ sym (append-assoc (z .0) (mark t (z .1) ∷ z .2) w) ∙ ap (λ l. l ++ w) (sym (z .3)) ∙ e)
-          (append-assoc ps (mark t 65 ∷ []) qs ∙ k)
-          (toks-append (z .0) (mark t (z .1) ∷ []) ∙ ap (λ l. l ++ (t ∷ [])) (z .4 ∙ sym h) ∙ sym (toks-append ps (mark t 65 ∷ []))) in
+      (append-assoc (z .0) (mark t (z .1) ∷ []) (z .2 ++ w) ∙ sym (append-assoc (z .0) (mark t (z .1) ∷ z .2) w) ∙ ap (λ l. l ++ w) (sym (z .3)) ∙ e)
+      (append-assoc ps (mark t 65 ∷ []) qs ∙ k)
+      (toks-append (z .0) (mark t (z .1) ∷ []) ∙ ap (λ l. l ++ (t ∷ [])) (z .4 ∙ sym h) ∙ sym (toks-append ps (mark t 65 ∷ []))) in
       let level : z .1 ≡ 65 = last-level (z .0) ps (z .1) 65 same in
       omega (arith, limited z .0)
     where

@@ -1,12 +1,10 @@
 -- A formula from its first token and what follows it: the exits of the reader of formulas.
 use mathlib.Core.Path.{_≡_, refl, sym, ap, _∙_, subst}
 use mathlib.Core.List.{List, [], _∷_, _++_}
-use Prim.Native.Nat.{ℕ, suc, _+_, _-_, _≤_, _<_}
-use native.Mathlib.Omega.{arith}
+use Prim.Native.Nat.{ℕ, suc, _+_, _-_}
 use Rattle.kripke.specs.Ctl.{Formula, truth, question}
 use Rattle.kripke.specs.declared.refusal.Refusal.{Refusal}
 use Rattle.kripke.specs.declared.refusal.Cause.{Cause}
-use Rattle.reader.specs.declared.token.Token.{Token}
 use Rattle.reader.specs.declared.token.Unary.{Unary}
 use Rattle.reader.specs.declared.head.Opening.{Opening}
 use Rattle.reader.specs.declared.head.Head.{Head}
@@ -14,10 +12,10 @@ use Rattle.reader.specs.declared.head.Head.the-variants as head
 use Rattle.reader.specs.declared.reader.Reader.{Reader}
 use Rattle.reader.specs.Tokens.{Stream, first, After}
 use Rattle.reader.specs.Grammar.{Mark, mark, marks, toks, All}
-use Rattle.reader.specs.Phrases.{Phrase, Then, Signed, Form, Opened, Middle, closing, joined, joinedCode, applied, appliedCode, opening, Why, unexpected, unasked, deep, Refused, Taken, Begun}
-use Rattle.reader.specs.Reading.{ahead, view, Laying}
+use Rattle.reader.specs.Phrases.{Signed, Form, Opened, Middle, closing, joined, applied, opening, Why, unexpected, unasked, deep, Refused, Taken, Begun}
+use Rattle.reader.specs.Reading.{ahead, view}
 use Rattle.reader.proofs.Streams.{after-append}
-use Rattle.reader.proofs.Phrases.{Unique, opened-unique, middle-unique, in-first, in-second, both-taken}
+use Rattle.reader.proofs.Phrases.{opened-unique, middle-unique, in-first, in-second, both-taken}
 use Rattle.reader.proofs.Heads.{Last, Second, Arguments, Tail, built, built-marks, inverse, unique}
 
 -- After a reader has only made a node.
@@ -27,23 +25,24 @@ same-view r r′ e h = ap (λ x. ahead (x .now) (r .at)) (sym e) ∙ ap (λ (n :
 -- A head, and then its tail.
 head-taken : (c l : ℕ) (s s1 s2 : Stream) (h : Head) (x : Tail (suc l) h .A) → Begun c l s h s1 → After s1 (toks (Tail (suc l) h .mk x)) s2 → All c (Tail (suc l) h .mk x)
     → After s (toks (marks l (built (suc l) h x))) s2 × All c (marks l (built (suc l) h x))
-head-taken c l s s1 s2 h x b af al =
-    ( subst (λ (m : List Mark). After s (toks m) s2) (sym (built-marks l h x)) (after-append s (opening h ∷ []) (toks (Tail (suc l) h .mk x)) s1 s2 (b .after) af)
-    , subst (All c) (sym (built-marks l h x)) (b .good, al) )
+head-taken c l s s1 s2 h x b af al = (
+  subst (λ (m : List Mark). After s (toks m) s2) (sym (built-marks l h x)) (after-append s (opening h ∷ []) (toks (Tail (suc l) h .mk x)) s1 s2 (b .after) af),
+  subst (All c) (sym (built-marks l h x)) (b .good, al),
+)
 
 head-refused : (c l : ℕ) (s s1 : Stream) (h : Head) (e : Refusal) → Begun c l s h s1 → Refused (Tail (suc l) h) c s1 e → Refused (Form l) c s e
 head-refused c l s s1 h e b z = record {
-    pre = mark (opening h) l ∷ z .pre;
-    w = z .w;
-    value = built (suc l) h (z .value);
-    at = z .at;
-    after = after-append s (opening h ∷ []) (toks (z .pre)) s1 (z .at) (b .after) (z .after);
-    good = (b .good, z .good);
-    spelt = ap (λ m. mark (opening h) l ∷ m) (z .spelt) ∙ sym (built-marks l h (z .value));
-    here = z .here;
-    layered = z .layered;
-    why = go (e .cause) (z .why)
-  }
+  pre = mark (opening h) l ∷ z .pre;
+  w = z .w;
+  value = built (suc l) h (z .value);
+  at = z .at;
+  after = after-append s (opening h ∷ []) (toks (z .pre)) s1 (z .at) (b .after) (z .after);
+  good = (b .good, z .good);
+  spelt = ap (λ m. mark (opening h) l ∷ m) (z .spelt) ∙ sym (built-marks l h (z .value));
+  here = z .here;
+  layered = z .layered;
+  why = go (e .cause) (z .why);
+}
   where
     go : (k : Cause) → Why (Tail (suc l) h) c (z .pre) (z .w) (first (z .at)) k → Why (Form l) c (mark (opening h) l ∷ z .pre) (z .w) (first (z .at)) k
     go k (unexpected g) = unexpected (λ y r v q. let i = inverse l h y r (toks (z .pre) ++ (first (z .at) ∷ v)) q in g (i .0) r v (i .2))

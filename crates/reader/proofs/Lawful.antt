@@ -1,11 +1,11 @@
 -- The nodes of a formula within the limits are well-formed.
-use mathlib.Core.Path.{_≡_, refl, sym, ap, _∙_, subst}
-use mathlib.Core.List.{List, [], _∷_, _++_, append-assoc}
-use mathlib.Core.Logic.{_⊎_, inl, inr, ⊎-elim}
-use Prim.Native.Nat.{ℕ, zero, suc, _+_, _-_, _≤_, _<_}
+use mathlib.Core.Path.{_≡_, refl, sym, subst}
+use mathlib.Core.List.{List, [], _∷_, _++_}
+use mathlib.Core.Logic.{_⊎_, ⊎-elim}
+use Prim.Native.Nat.{ℕ, zero, suc, _+_, _-_, _<_}
 use native.Mathlib.Omega.{arith}
 use lib.ListN.{length, getD}
-use Rattle.std.proofs.shelf.Lists.{length-append, getD-append-left, getD-append-right, getD-at}
+use Rattle.std.proofs.shelf.Lists.{length-append, getD-append-left, getD-append-right}
 use Rattle.std.proofs.shelf.Tests.{cases-lt}
 use Rattle.kripke.specs.Ctl.{Formula}
 use Rattle.kripke.specs.Nodes.{LawfulNode, blank, WellFormed}
@@ -19,7 +19,7 @@ use Rattle.reader.specs.declared.head.Opening.the-variants.{Pair, Until}
 use Rattle.reader.specs.declared.head.Head.the-variants as head
 use Rattle.reader.specs.Grammar.{Mark, mark, marks, All, Within}
 use Rattle.reader.specs.Phrases.{conj, disj, Opened, Middle, closing, applied, appliedCode, joined, joinedCode}
-use Rattle.reader.specs.Table.{node, one, two, nodes, table}
+use Rattle.reader.specs.Table.{node, nodes, table}
 use Rattle.reader.proofs.Heads.{built-marks, induction}
 use Rattle.reader.proofs.Tables.{applied-nodes, joined-nodes, some-node}
 
@@ -39,9 +39,9 @@ append-ordered : (q i : ℕ) (a b : List Node) → Ordered-from q i a → Ordere
 append-ordered q i a b ha hb k l = ⊎-elim
     (λ h. subst (LawfulNode q (i + k)) (sym (getD-append-left a b blank k h)) (ha k h))
     (λ h.
-      let at : i + length a + (k - length a) ≡ i + k = omega arith in
-      subst (LawfulNode q (i + k)) (sym (getD-append-right a b (length a) k blank refl h))
-        (subst (λ (m : ℕ). LawfulNode q m (getD b (k - length a) blank)) at (hb (k - length a) (omega (arith, length-append a b)))))
+    let at : i + length a + (k - length a) ≡ i + k = omega arith in
+    subst (LawfulNode q (i + k)) (sym (getD-append-right a b (length a) k blank refl h))
+    (subst (λ (m : ℕ). LawfulNode q m (getD b (k - length a) blank)) at (hb (k - length a) (omega (arith, length-append a b)))))
     (cases-lt k (length a))
 
 one-ordered : (q i : ℕ) (n : Node) → LawfulNode q i n → Ordered-from q i (n ∷ [])
@@ -70,8 +70,8 @@ lawful-applied : (q : ℕ) (u : Unary) (f : Formula) → Lawful-from q f → Law
 lawful-applied q u f h l i al =
     let some = some-node f i in
     subst (Ordered-from q i) (sym (applied-nodes i u f))
-      (append-ordered q i (nodes i f) (node (appliedCode u) (i + length (nodes i f) - 1) 0 ∷ []) (h (suc l) i (subst (All q) (built-marks l (head.Unary u) f) al .1))
-        (one-ordered q (i + length (nodes i f)) _ (applied-lawful q (i + length (nodes i f)) _ u (omega arith))))
+    (append-ordered q i (nodes i f) (node (appliedCode u) (i + length (nodes i f) - 1) 0 ∷ []) (h (suc l) i (subst (All q) (built-marks l (head.Unary u) f) al .1))
+    (one-ordered q (i + length (nodes i f)) _ (applied-lawful q (i + length (nodes i f)) _ u (omega arith))))
 
 lawful-joined : (q : ℕ) (o : Opening) (m : Middle o .A) (f g : Formula) → Lawful-from q f → Lawful-from q g → Lawful-from q (joined o m f g)
 lawful-joined q o m f g h k l i al =
@@ -83,9 +83,9 @@ lawful-joined q o m f g h k l i al =
     let after = all-right q (Opened o .mk (Opened o .any)) _ (subst (All q) (built-marks l (head.Binary o) (Opened o .any, (f, (m, (g, tt))))) al .1) in
     let second = all-right q (Middle o .mk m) (marks (suc l) g ++ (mark (token.Sign (closing o)) 0 ∷ [])) (all-right q (marks (suc l) f) _ after) in
     subst (Ordered-from q i) (sym (joined-nodes i o m f g))
-      (append-ordered q i ns (ms ++ (n ∷ [])) (h (suc l) i (all-left q (marks (suc l) f) _ after))
-        (append-ordered q (i + length ns) ms (n ∷ []) (k (suc l) (i + length ns) (all-left q (marks (suc l) g) (mark (token.Sign (closing o)) 0 ∷ []) second))
-          (one-ordered q (i + length ns + length ms) n (joined-lawful q (i + length ns + length ms) _ _ o m (omega arith) (omega arith)))))
+    (append-ordered q i ns (ms ++ (n ∷ [])) (h (suc l) i (all-left q (marks (suc l) f) _ after))
+    (append-ordered q (i + length ns) ms (n ∷ []) (k (suc l) (i + length ns) (all-left q (marks (suc l) g) (mark (token.Sign (closing o)) 0 ∷ []) second))
+    (one-ordered q (i + length ns + length ms) n (joined-lawful q (i + length ns + length ms) _ _ o m (omega arith) (omega arith)))))
 
 lawful-from : (q : ℕ) (f : Formula) → Lawful-from q f
 lawful-from q = induction (Lawful-from q)

@@ -2,7 +2,7 @@
 use mathlib.Core.Path.{_≡_, refl, sym, ap, _∙_, subst}
 use mathlib.Core.List.{List, [], _∷_, _++_, append-assoc, append-nil}
 use mathlib.Core.Logic.{_⊎_, inl, inr, ⊎-elim}
-use Prim.Native.Nat.{ℕ, zero, suc}
+use Prim.Native.Nat.{ℕ, suc}
 use Rattle.kripke.specs.Ctl.{Formula}
 use Rattle.reader.specs.declared.token.Token.{Token}
 use Rattle.reader.specs.declared.token.Token.the-variants as token
@@ -12,7 +12,7 @@ use Rattle.reader.specs.declared.head.Opening.the-variants.{Pair, Until}
 use Rattle.reader.specs.declared.head.Head.{Head}
 use Rattle.reader.specs.declared.head.Head.the-variants as head
 use Rattle.reader.specs.Grammar.{Mark, mark, marks, toks, whole}
-use Rattle.reader.specs.Phrases.{Phrase, Then, Nothing, Exact, Signed, Form, linking, Linked, Opened, Middle, closing, opening}
+use Rattle.reader.specs.Phrases.{Phrase, Then, Nothing, Exact, Signed, Form, linking, Opened, Middle, closing, opening}
 use Rattle.reader.proofs.Phrases.{clash}
 use Rattle.reader.proofs.Heads.{Last, Second, Arguments, Tail, built, built-marks, begins-with, one-head, induction}
 
@@ -28,11 +28,18 @@ DetAt P a = (b : P .A) (ps v r qs w s : List Mark) → ps ++ v ≡ P .mk a ++ r 
 seq-det : (P Q : Phrase) (a : P .A) (b : Q .A) → DetAt P a → DetAt Q b → DetAt (Then P Q) (a, b)
 seq-det P Q a b da db y ps v r qs w s e1 e2 e3 =
     ⊎-elim inl (λ z. ⊎-elim
-        (λ same. inl (z .2 ∙ ap (λ l. P .mk a ++ l) same ∙ sym (z .3)))
-        (λ x. inr (x .0, x .1, z .2 ∙ ap (λ l. P .mk a ++ l) (x .2) ∙ sym (append-assoc (P .mk a) (Q .mk b) (x .0)),
-          z .3 ∙ ap (λ l. P .mk a ++ l) (x .3) ∙ sym (append-assoc (P .mk a) (Q .mk b) (x .1)), x .4, x .5, x .6))
-        (db (y .1) (z .0) v r (z .1) w s (z .4) (z .5) (z .6)))
-      (da (y .0) ps v (Q .mk b ++ r) qs w (Q .mk (y .1) ++ s) (e1 ∙ append-assoc (P .mk a) (Q .mk b) r) (e2 ∙ append-assoc (P .mk (y .0)) (Q .mk (y .1)) s) e3)
+    (λ same. inl (z .2 ∙ ap (λ l. P .mk a ++ l) same ∙ sym (z .3)))
+    (λ x. inr (
+      x .0,
+      x .1,
+      z .2 ∙ ap (λ l. P .mk a ++ l) (x .2) ∙ sym (append-assoc (P .mk a) (Q .mk b) (x .0)),
+      z .3 ∙ ap (λ l. P .mk a ++ l) (x .3) ∙ sym (append-assoc (P .mk a) (Q .mk b) (x .1)),
+      x .4,
+      x .5,
+      x .6,
+    ))
+    (db (y .1) (z .0) v r (z .1) w s (z .4) (z .5) (z .6)))
+    (da (y .0) ps v (Q .mk b ++ r) qs w (Q .mk (y .1) ++ s) (e1 ∙ append-assoc (P .mk a) (Q .mk b) r) (e2 ∙ append-assoc (P .mk (y .0)) (Q .mk (y .1)) s) e3)
 
 mark-step : (t u : Token) (m : ℕ) (ps v r qs w s : List Mark) → ps ++ v ≡ mark t m ∷ r → qs ++ w ≡ mark u m ∷ s → toks ps ≡ toks qs
     → (ps ≡ qs) ⊎ ((t ≡ u) × Passed (mark t m ∷ []) ps v r qs w s)
@@ -59,25 +66,32 @@ head-det : (l : ℕ) (h : Head) (x : Tail (suc l) h .A) → DetAt (Tail (suc l) 
 head-det l h x dx g ps v r qs w s e1 e2 e3 =
     let z = begins-with l g in
     ⊎-elim inl (λ k.
-      let y : (x′ : Tail (suc l) h .A) × (marks l g ≡ mark (opening h) l ∷ Tail (suc l) h .mk x′) =
-          subst (λ (j : Head). (x′ : Tail (suc l) j .A) × (marks l g ≡ mark (opening j) l ∷ Tail (suc l) j .mk x′)) (sym (one-head h (z .0) (k .0))) (z .1, z .3) in
-      let tail : Tail (suc l) (z .0) .mk (z .1) ≡ Tail (suc l) h .mk (y .0) =
-          let e : mark (opening (z .0)) l ∷ Tail (suc l) (z .0) .mk (z .1) ≡ mark (opening h) l ∷ Tail (suc l) h .mk (y .0) = sym (z .3) ∙ y .1 in cc in
-      let p = k .1 in
-      ⊎-elim
-        (λ same. inl (p .2 ∙ ap (λ i. mark (opening h) l ∷ i) same ∙ sym (p .3)))
-        (λ d. inr (d .0, d .1, p .2 ∙ ap (λ i. mark (opening h) l ∷ i) (d .2) ∙ ap (λ i. i ++ d .0) (sym (built-marks l h x)),
-          p .3 ∙ ap (λ i. mark (opening h) l ∷ i) (d .3) ∙ ap (λ i. i ++ d .1) (sym (built-marks l h x)), d .4, d .5, d .6))
-        (dx (y .0) (p .0) v r (p .1) w s (p .4) (p .5 ∙ ap (λ i. i ++ s) tail) (p .6)))
-      (mark-step (opening h) (opening (z .0)) l ps v (Tail (suc l) h .mk x ++ r) qs w (Tail (suc l) (z .0) .mk (z .1) ++ s)
-        (e1 ∙ ap (λ i. i ++ r) (built-marks l h x)) (e2 ∙ ap (λ i. i ++ s) (z .3)) e3)
+    let y : (x′ : Tail (suc l) h .A) × (marks l g ≡ mark (opening h) l ∷ Tail (suc l) h .mk x′) =
+    subst (λ (j : Head). (x′ : Tail (suc l) j .A) × (marks l g ≡ mark (opening j) l ∷ Tail (suc l) j .mk x′)) (sym (one-head h (z .0) (k .0))) (z .1, z .3) in
+    let tail : Tail (suc l) (z .0) .mk (z .1) ≡ Tail (suc l) h .mk (y .0) =
+    let e : mark (opening (z .0)) l ∷ Tail (suc l) (z .0) .mk (z .1) ≡ mark (opening h) l ∷ Tail (suc l) h .mk (y .0) = sym (z .3) ∙ y .1 in cc in
+    let p = k .1 in
+    ⊎-elim
+    (λ same. inl (p .2 ∙ ap (λ i. mark (opening h) l ∷ i) same ∙ sym (p .3)))
+    (λ d. inr (
+      d .0,
+      d .1,
+      p .2 ∙ ap (λ i. mark (opening h) l ∷ i) (d .2) ∙ ap (λ i. i ++ d .0) (sym (built-marks l h x)),
+      p .3 ∙ ap (λ i. mark (opening h) l ∷ i) (d .3) ∙ ap (λ i. i ++ d .1) (sym (built-marks l h x)),
+      d .4,
+      d .5,
+      d .6,
+    ))
+    (dx (y .0) (p .0) v r (p .1) w s (p .4) (p .5 ∙ ap (λ i. i ++ s) tail) (p .6)))
+    (mark-step (opening h) (opening (z .0)) l ps v (Tail (suc l) h .mk x ++ r) qs w (Tail (suc l) (z .0) .mk (z .1) ++ s)
+    (e1 ∙ ap (λ i. i ++ r) (built-marks l h x)) (e2 ∙ ap (λ i. i ++ s) (z .3)) e3)
 
 tail-det : (n : ℕ) (o : Opening) (m : Middle o .A) (f g : Formula) → DetAt (Form n) f → DetAt (Form n) g
     → DetAt (Tail n (head.Binary o)) (Opened o .any, (f, (m, (g, tt))))
 tail-det n o m f g df dg =
     seq-det (Opened o) (Arguments n o) (Opened o .any) (f, (m, (g, tt))) (opened-det o)
-      (seq-det (Form n) (Second n o) f (m, (g, tt)) df
-        (seq-det (Middle o) (Last n o) m (g, tt) (middle-det o m) (seq-det (Form n) (Signed (closing o)) g tt dg (exact-det (token.Sign (closing o))))))
+    (seq-det (Form n) (Second n o) f (m, (g, tt)) df
+    (seq-det (Middle o) (Last n o) m (g, tt) (middle-det o m) (seq-det (Form n) (Signed (closing o)) g tt dg (exact-det (token.Sign (closing o))))))
 
 determined : (f : Formula) (l : ℕ) → DetAt (Form l) f
 determined = induction (λ f. (l : ℕ) → DetAt (Form l) f)
@@ -93,5 +107,5 @@ empty (x ∷ p) v e = clash cc
 pub same-levels : (f g : Formula) (ps v qs w : List Mark) → ps ++ v ≡ whole f → qs ++ w ≡ whole g → toks ps ≡ toks qs → ps ≡ qs
 same-levels f g ps v qs w e1 e2 e3 =
     ⊎-elim (λ e. e) (λ z. z .2 ∙ ap (λ l. whole f ++ l) (empty (z .0) v (z .4) ∙ sym (empty (z .1) w (z .5))) ∙ sym (z .3))
-      (seq-det (Form 1) (Exact token.End) f tt (determined f 1) (exact-det token.End) (g, tt) ps v [] qs w []
-        (e1 ∙ sym (append-nil (whole f))) (e2 ∙ sym (append-nil (whole g))) e3)
+    (seq-det (Form 1) (Exact token.End) f tt (determined f 1) (exact-det token.End) (g, tt) ps v [] qs w []
+    (e1 ∙ sym (append-nil (whole f))) (e2 ∙ sym (append-nil (whole g))) e3)

@@ -2,7 +2,7 @@
 use mathlib.Core.Path.{_≡_, refl, sym, ap, _∙_}
 use mathlib.Core.List.{List, [], _∷_, _++_}
 use mathlib.Core.Logic.{_⊎_, inl, inr, ⊎-elim}
-use Prim.Native.Nat.{ℕ, suc, _<_, _≤_}
+use Prim.Native.Nat.{ℕ, suc, _<_}
 use native.Mathlib.Omega.{arith}
 use Rattle.kripke.specs.Refusals.{numberOf}
 use Rattle.kripke.specs.declared.refusal.Cause.{Cause}
@@ -23,8 +23,8 @@ compare l (done o) p (t ∷ a) (t′ ∷ b) s1 s2 h g = absurd h
 compare l (next o u s) p (t ∷ a) (t′ ∷ b) s1 s2 h g =
     let e : t ≡ t′ = sym (h .0) ∙ g .0 in
     ⊎-elim (λ z. inl (z .0, ap (λ l. t ∷ l) (z .1) ∙ ap (λ y. y ∷ (b ++ (first s2 ∷ z .0))) e))
-      (λ z. inr (⊎-elim inl (λ p. inr (ap (λ l. t ∷ l) p ∙ ap (λ y. y ∷ b) e)) z))
-      (compare (suc o) s (p .2) a b s1 s2 (h .1) (g .1))
+    (λ z. inr (⊎-elim inl (λ p. inr (ap (λ l. t ∷ l) p ∙ ap (λ y. y ∷ b) e)) z))
+    (compare (suc o) s (p .2) a b s1 s2 (h .1) (g .1))
 
 -- What is told sooner of two causes that are told by their places.
 pub nearer : (d k : Cause) (q p : ℕ) → stage d ≡ stage k → Sooner d q k p → (q < p) ⊎ ((q ≡ p) × (numberOf d < numberOf k))

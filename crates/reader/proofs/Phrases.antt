@@ -1,7 +1,7 @@
 -- Phrases one after another: they are read in one way, and a refusal of a part is one of the whole.
 use mathlib.Core.Path.{_≡_, refl, sym, ap, _∙_, subst}
 use mathlib.Core.List.{List, [], _∷_, _++_, append-assoc}
-use Prim.Native.Nat.{ℕ, zero, suc, _≤_, _<_}
+use Prim.Native.Nat.{ℕ}
 use native.Mathlib.Omega.{arith}
 use Rattle.kripke.specs.declared.refusal.Refusal.{Refusal}
 use Rattle.kripke.specs.declared.refusal.Cause.{Cause}
@@ -13,8 +13,8 @@ use Rattle.reader.specs.declared.token.Sign.the-variants as sign
 use Rattle.reader.specs.declared.head.Opening.{Opening}
 use Rattle.reader.specs.declared.head.Opening.the-variants.{Pair, Until}
 use Rattle.reader.specs.Tokens.{Stream, first, offset, After}
-use Rattle.reader.specs.Grammar.{Mark, mark, toks, Asked, All}
-use Rattle.reader.specs.Phrases.{Phrase, Then, Nothing, Exact, Link, conj, disj, linking, Linked, Opened, Middle, Why, unexpected, unasked, deep, Refused, Taken}
+use Rattle.reader.specs.Grammar.{Mark, mark, toks, All}
+use Rattle.reader.specs.Phrases.{Phrase, Then, Nothing, Exact, conj, disj, Linked, Opened, Middle, Why, unexpected, unasked, deep, Refused}
 use Rattle.reader.proofs.Streams.{after-append}
 
 pub toks-append : (a b : List Mark) → toks (a ++ b) ≡ toks a ++ toks b
@@ -67,17 +67,17 @@ middle-unique (Until q) = exact-unique (token.Sign sign.Until)
 -- A refusal within the first of two phrases.
 pub in-first : (P Q : Phrase) (c : ℕ) (s : Stream) (e : Refusal) → Refused P c s e → Refused (Then P Q) c s e
 in-first P Q c s e z = record {
-    pre = z .pre;
-    w = z .w ++ Q .mk (Q .any);
-    value = (z .value, Q .any);
-    at = z .at;
-    after = z .after;
-    good = z .good;
-    spelt = sym (append-assoc (z .pre) (z .w) (Q .mk (Q .any))) ∙ ap (λ l. l ++ Q .mk (Q .any)) (z .spelt);
-    here = z .here;
-    layered = z .layered;
-    why = go (e .cause) (z .why)
-  }
+  pre = z .pre;
+  w = z .w ++ Q .mk (Q .any);
+  value = (z .value, Q .any);
+  at = z .at;
+  after = z .after;
+  good = z .good;
+  spelt = sym (append-assoc (z .pre) (z .w) (Q .mk (Q .any))) ∙ ap (λ l. l ++ Q .mk (Q .any)) (z .spelt);
+  here = z .here;
+  layered = z .layered;
+  why = go (e .cause) (z .why);
+}
   where
     go : (k : Cause) → Why P c (z .pre) (z .w) (first (z .at)) k → Why (Then P Q) c (z .pre) (z .w ++ Q .mk (Q .any)) (first (z .at)) k
     go k (unexpected h) = unexpected (λ y r v q. h (y .0) (toks (Q .mk (y .1)) ++ r) v (q ∙ toks-then (P .mk (y .0)) (Q .mk (y .1)) r))
@@ -88,44 +88,45 @@ in-first P Q c s e z = record {
 pub in-second : (P Q : Phrase) → Unique P → (c : ℕ) (s s1 : Stream) (e : Refusal) (a : P .A)
     → After s (toks (P .mk a)) s1 → All c (P .mk a) → Refused Q c s1 e → Refused (Then P Q) c s e
 in-second P Q unique c s s1 e a af al z = record {
-    pre = P .mk a ++ z .pre;
-    w = z .w;
-    value = (a, z .value);
-    at = z .at;
-    after = subst (λ (l : List Token). After s l (z .at)) (sym (toks-append (P .mk a) (z .pre))) (after-append s (toks (P .mk a)) (toks (z .pre)) s1 (z .at) af (z .after));
-    good = all-append c (P .mk a) (z .pre) al (z .good);
-    spelt = append-assoc (P .mk a) (z .pre) (z .w) ∙ ap (λ l. P .mk a ++ l) (z .spelt);
-    here = z .here;
-    layered = z .layered;
-    why = go (e .cause) (z .why)
-  }
+  pre = P .mk a ++ z .pre;
+  w = z .w;
+  value = (a, z .value);
+  at = z .at;
+  after = subst (λ (l : List Token). After s l (z .at)) (sym (toks-append (P .mk a) (z .pre))) (after-append s (toks (P .mk a)) (toks (z .pre)) s1 (z .at) af (z .after));
+  good = all-append c (P .mk a) (z .pre) al (z .good);
+  spelt = append-assoc (P .mk a) (z .pre) (z .w) ∙ ap (λ l. P .mk a ++ l) (z .spelt);
+  here = z .here;
+  layered = z .layered;
+  why = go (e .cause) (z .why);
+}
   where
     go : (k : Cause) → Why Q c (z .pre) (z .w) (first (z .at)) k → Why (Then P Q) c (P .mk a ++ z .pre) (z .w) (first (z .at)) k
     go k (unexpected h) = unexpected (λ y r v q.
         h (y .1) r v (unique a (y .0) (toks (z .pre) ++ (first (z .at) ∷ v)) (toks (Q .mk (y .1)) ++ r)
-          (sym (toks-then (P .mk a) (z .pre) (first (z .at) ∷ v)) ∙ q ∙ toks-then (P .mk (y .0)) (Q .mk (y .1)) r) .1))
+        (sym (toks-then (P .mk a) (z .pre) (first (z .at) ∷ v)) ∙ q ∙ toks-then (P .mk (y .0)) (Q .mk (y .1)) r) .1))
     go k (unasked v m j a b l) = unasked v m j a b l
     go k (deep v a b) = deep v a b
 
 -- The two read one after the other.
 pub both-taken : (P Q : Phrase) (c : ℕ) (s s1 s2 : Stream) (a : P .A) (b : Q .A) → After s (toks (P .mk a)) s1 → All c (P .mk a)
     → After s1 (toks (Q .mk b)) s2 → All c (Q .mk b) → After s (toks (P .mk a ++ Q .mk b)) s2 × All c (P .mk a ++ Q .mk b)
-both-taken P Q c s s1 s2 a b h al g bl =
-    ( subst (λ (l : List Token). After s l s2) (sym (toks-append (P .mk a) (Q .mk b))) (after-append s (toks (P .mk a)) (toks (Q .mk b)) s1 s2 h g)
-    , all-append c (P .mk a) (Q .mk b) al bl )
+both-taken P Q c s s1 s2 a b h al g bl = (
+  subst (λ (l : List Token). After s l s2) (sym (toks-append (P .mk a) (Q .mk b))) (after-append s (toks (P .mk a)) (toks (Q .mk b)) s1 s2 h g),
+  all-append c (P .mk a) (Q .mk b) al bl,
+)
 
 -- A refusal where no token was taken.
 pub nothing-taken : (P : Phrase) (c : ℕ) (s : Stream) (e : Refusal) → offset s ≡ e .place → e .layer ≡ layer.Text → e .cause ≡ cause.Unexpected
     → ((y : P .A) (r v : List Token) → first s ∷ v ≡ toks (P .mk y) ++ r → ⊥) → Refused P c s e
 nothing-taken P c s e o l k h = record {
-    pre = [];
-    w = P .mk (P .any);
-    value = P .any;
-    at = s;
-    after = refl;
-    good = tt;
-    spelt = refl;
-    here = o;
-    layered = l;
-    why = subst (λ (z : Cause). Why P c [] (P .mk (P .any)) (first s) z) (sym k) (unexpected h)
-  }
+  pre = [];
+  w = P .mk (P .any);
+  value = P .any;
+  at = s;
+  after = refl;
+  good = tt;
+  spelt = refl;
+  here = o;
+  layered = l;
+  why = subst (λ (z : Cause). Why P c [] (P .mk (P .any)) (first s) z) (sym k) (unexpected h);
+}

@@ -1,10 +1,10 @@
 -- A text's tokens: only the last is the end, and their offsets rise.
 use mathlib.Core.Path.{_≡_, refl, sym, ap, _∙_, subst}
-use mathlib.Core.Bool.{Bool, true, false, cond, _&&_}
+use mathlib.Core.Bool.{Bool, true, false, cond}
 use mathlib.Core.List.{List, [], _∷_, _++_}
-use Prim.Native.Nat.{ℕ, zero, suc, _≤_, _<_, _-_, _*_, _+_}
+use Prim.Native.Nat.{ℕ, zero, suc, _≤_, _-_, _+_}
 use native.Mathlib.Omega.{arith}
-use lib.Dec.{eqb, leb}
+use lib.Dec.{eqb}
 use Rattle.std.specs.declared.option.Option.{Option}
 use Rattle.std.specs.declared.option.Option.the-variants.{None, Some}
 use Rattle.reader.specs.declared.token.Token.{Token}
@@ -40,8 +40,8 @@ pick false p q a b = b
 single-real : (b : ℕ) → Real (single b)
 single-real b =
     pick (eqb b 84) Truth _ tt (pick (eqb b 33) (Unary Not) _ tt (pick (eqb b 38) (Sign And) _ tt (pick (eqb b 124) (Sign Or) _ tt
-      (pick (eqb b 40) (Sign Open) _ tt (pick (eqb b 41) (Sign Close) _ tt (pick (eqb b 91) (Sign Left) _ tt (pick (eqb b 93) (Sign Right) _ tt
-        (pick (eqb b 85) (Sign Until) _ tt (pick (eqb b 69) (Alone Exists) _ tt (pick (eqb b 65) (Alone Forall) Other tt tt))))))))))
+    (pick (eqb b 40) (Sign Open) _ tt (pick (eqb b 41) (Sign Close) _ tt (pick (eqb b 91) (Sign Left) _ tt (pick (eqb b 93) (Sign Right) _ tt
+    (pick (eqb b 85) (Sign Until) _ tt (pick (eqb b 69) (Alone Exists) _ tt (pick (eqb b 65) (Alone Forall) Other tt tt))))))))))
 
 asking-real : (o : Option (ℕ × ℕ)) → Real (asking o .0)
 asking-real None = tt

@@ -1,25 +1,21 @@
 -- A formula's table: its numbers are in order, and its root is the formula.
-use mathlib.Core.Path.{_≡_, refl, sym, ap, _∙_, subst}
-use mathlib.Core.List.{List, [], _∷_, _++_, append-assoc, append-nil}
-use mathlib.Core.Logic.{_⊎_, inl, inr, ⊎-elim}
-use Prim.Native.Nat.{ℕ, zero, suc, _+_, _-_, _≤_, _<_}
+use mathlib.Core.Path.{_≡_, refl, sym, ap, _∙_}
+use mathlib.Core.List.{List, [], _∷_, _++_, append-assoc}
+use Prim.Native.Nat.{ℕ, _+_, _-_, _≤_}
 use native.Mathlib.Omega.{arith}
-use lib.ListN.{length, getD, set, drop, length-set}
-use Rattle.std.proofs.shelf.Lists.{length-append, getD-append-left, getD-append-right, getD-at, set-at}
-use Rattle.std.proofs.shelf.Tests.{cases-lt}
-use Rattle.kripke.specs.Ctl.{Formula, truth, question}
-use Rattle.kripke.specs.Nodes.{operator, made, grown, formulas, formula, root, LawfulNode, blank, WellFormed}
+use lib.ListN.{length, getD}
+use Rattle.std.proofs.shelf.Lists.{length-append, getD-append-left, getD-at}
+use Rattle.kripke.specs.Ctl.{Formula, truth}
+use Rattle.kripke.specs.Nodes.{made, grown, formulas, root}
 use Rattle.kripke.specs.declared.node.Node.{Node}
 use Rattle.reader.specs.declared.token.Unary.{Unary}
 use Rattle.reader.specs.declared.token.Unary.the-variants as unary
 use Rattle.reader.specs.declared.token.Quantifier.the-variants.{Exists, Forall}
 use Rattle.reader.specs.declared.head.Opening.{Opening}
 use Rattle.reader.specs.declared.head.Opening.the-variants.{Pair, Until}
-use Rattle.reader.specs.declared.head.Head.the-variants as head
-use Rattle.reader.specs.Grammar.{marks, All, Within}
-use Rattle.reader.specs.Phrases.{conj, disj, Opened, Middle, closing, applied, appliedCode, joined, joinedCode}
+use Rattle.reader.specs.Phrases.{conj, disj, Middle, applied, appliedCode, joined, joinedCode}
 use Rattle.reader.specs.Table.{node, one, two, nodes, table}
-use Rattle.reader.proofs.Heads.{built-marks, induction}
+use Rattle.reader.proofs.Heads.{induction}
 
 -- The nodes of an operator on its arguments.
 pub applied-nodes : (i : ℕ) (u : Unary) (f : Formula) → nodes i (applied u f) ≡ one (appliedCode u) i (nodes i f)
@@ -80,12 +76,13 @@ grows-applied : (u : Unary) (f : Formula) → Grows f → Grows (applied u f)
 grows-applied u f h fs i e =
     let z = h fs i e in
     let n : Node = node (appliedCode u) (i + length (nodes i f) - 1) 0 in
-    let fs1 : List Formula = fs ++ (z .0 ++ (f ∷ [])) in
-    ( z .0 ++ (f ∷ [])
-    , ap (grown fs) (applied-nodes i u f) ∙ grown-append fs (nodes i f) (n ∷ []) ∙ ap (λ (l : List Formula). grown l (n ∷ [])) (z .1) ∙ grown-one fs1 n
-        ∙ ap (λ (x : Formula). fs1 ++ (x ∷ [])) (made-applied u fs1 (i + length (nodes i f) - 1) ∙ ap (applied u) (last-one fs (z .0) f _ (omega (arith, z .2))))
-        ∙ append-assoc fs (z .0 ++ (f ∷ [])) (applied u f ∷ [])
-    , omega (arith, length-append (z .0) (f ∷ []), z .2, ap length (applied-nodes i u f), length-append (nodes i f) (n ∷ [])) )
+    let fs1 : List Formula = fs ++ (z .0 ++ (f ∷ [])) in (
+      z .0 ++ (f ∷ []),
+      ap (grown fs) (applied-nodes i u f) ∙ grown-append fs (nodes i f) (n ∷ []) ∙ ap (λ (l : List Formula). grown l (n ∷ [])) (z .1) ∙ grown-one fs1 n
+          ∙ ap (λ (x : Formula). fs1 ++ (x ∷ [])) (made-applied u fs1 (i + length (nodes i f) - 1) ∙ ap (applied u) (last-one fs (z .0) f _ (omega (arith, z .2))))
+          ∙ append-assoc fs (z .0 ++ (f ∷ [])) (applied u f ∷ []),
+      omega (arith, length-append (z .0) (f ∷ []), z .2, ap length (applied-nodes i u f), length-append (nodes i f) (n ∷ [])),
+    )
 
 -- The formula of an operator after those of its arguments.
 ends-joined : (o : Opening) (m : Middle o .A) (f g : Formula) (fs gs hs : List Formula) (j k : ℕ) → length fs + length gs ≡ j → j + 1 + length hs ≡ k
@@ -93,9 +90,9 @@ ends-joined : (o : Opening) (m : Middle o .A) (f g : Formula) (fs gs hs : List F
 ends-joined o m f g fs gs hs j k p q =
     let l : length (fs ++ (gs ++ (f ∷ []))) ≡ j + 1 = length-append fs (gs ++ (f ∷ [])) ∙ (let l = length-append gs (f ∷ []) in omega arith) in
     made-joined o m ((fs ++ (gs ++ (f ∷ []))) ++ (hs ++ (g ∷ []))) j k
-      ∙ ap (λ (x : Formula). joined o m x (getD ((fs ++ (gs ++ (f ∷ []))) ++ (hs ++ (g ∷ []))) k truth))
-        (getD-append-left (fs ++ (gs ++ (f ∷ []))) (hs ++ (g ∷ [])) truth j (omega arith) ∙ last-one fs gs f j p)
-      ∙ ap (joined o m f) (last-one (fs ++ (gs ++ (f ∷ []))) hs g k (omega arith))
+    ∙ ap (λ (x : Formula). joined o m x (getD ((fs ++ (gs ++ (f ∷ []))) ++ (hs ++ (g ∷ []))) k truth))
+    (getD-append-left (fs ++ (gs ++ (f ∷ []))) (hs ++ (g ∷ [])) truth j (omega arith) ∙ last-one fs gs f j p)
+    ∙ ap (joined o m f) (last-one (fs ++ (gs ++ (f ∷ []))) hs g k (omega arith))
 
 -- The formulas of two lists of nodes and one more.
 grown-two : (fs gs hs : List Formula) (f g h : Formula) (ns ms : List Node) (n : Node) → grown fs ns ≡ fs ++ (gs ++ (f ∷ []))
@@ -103,10 +100,10 @@ grown-two : (fs gs hs : List Formula) (f g h : Formula) (ns ms : List Node) (n :
     → grown fs (ns ++ (ms ++ (n ∷ []))) ≡ fs ++ (((gs ++ (f ∷ [])) ++ (hs ++ (g ∷ []))) ++ (h ∷ []))
 grown-two fs gs hs f g h ns ms n p q r =
     grown-append fs ns (ms ++ (n ∷ [])) ∙ ap (λ (l : List Formula). grown l (ms ++ (n ∷ []))) p
-      ∙ grown-append (fs ++ (gs ++ (f ∷ []))) ms (n ∷ []) ∙ ap (λ (l : List Formula). grown l (n ∷ [])) q
-      ∙ grown-one ((fs ++ (gs ++ (f ∷ []))) ++ (hs ++ (g ∷ []))) n ∙ ap (λ (x : Formula). ((fs ++ (gs ++ (f ∷ []))) ++ (hs ++ (g ∷ []))) ++ (x ∷ [])) r
-      ∙ ap (λ (l : List Formula). l ++ (h ∷ [])) (append-assoc fs (gs ++ (f ∷ [])) (hs ++ (g ∷ [])))
-      ∙ append-assoc fs ((gs ++ (f ∷ [])) ++ (hs ++ (g ∷ []))) (h ∷ [])
+    ∙ grown-append (fs ++ (gs ++ (f ∷ []))) ms (n ∷ []) ∙ ap (λ (l : List Formula). grown l (n ∷ [])) q
+    ∙ grown-one ((fs ++ (gs ++ (f ∷ []))) ++ (hs ++ (g ∷ []))) n ∙ ap (λ (x : Formula). ((fs ++ (gs ++ (f ∷ []))) ++ (hs ++ (g ∷ []))) ++ (x ∷ [])) r
+    ∙ ap (λ (l : List Formula). l ++ (h ∷ [])) (append-assoc fs (gs ++ (f ∷ [])) (hs ++ (g ∷ [])))
+    ∙ append-assoc fs ((gs ++ (f ∷ [])) ++ (hs ++ (g ∷ []))) (h ∷ [])
 
 grows-joined : (o : Opening) (m : Middle o .A) (f g : Formula) → Grows f → Grows g → Grows (joined o m f g)
 grows-joined o m f g h k fs i e = go (nodes i f) (joined-nodes i o m f g) (h fs i e)
@@ -120,12 +117,19 @@ grows-joined o m f g h k fs i e = go (nodes i f) (joined-nodes i o m f g) (h fs 
         on : (ms : List Node) → nodes i (joined o m f g) ≡ two (joinedCode o m) i ns ms
             → (hs : List Formula) × (grown (fs ++ (gs ++ (f ∷ []))) ms ≡ (fs ++ (gs ++ (f ∷ []))) ++ (hs ++ (g ∷ []))) × (length hs + 1 ≡ length ms)
             → (gs : List Formula) × (grown fs (nodes i (joined o m f g)) ≡ fs ++ (gs ++ (joined o m f g ∷ []))) × (length gs + 1 ≡ length (nodes i (joined o m f g)))
-        on ms is (hs, q, d) =
-            ( (gs ++ (f ∷ [])) ++ (hs ++ (g ∷ []))
-            , ap (grown fs) is ∙ grown-two fs gs hs f g (joined o m f g) ns ms _ p q (ends-joined o m f g fs gs hs (i + length ns - 1) (i + length ns + length ms - 1) (omega arith) (omega arith))
-            , omega (arith, length-append (gs ++ (f ∷ [])) (hs ++ (g ∷ [])), length-append gs (f ∷ []), length-append hs (g ∷ []), ap length is,
-                length-append ns (ms ++ (node (joinedCode o m) (i + length ns - 1) (i + length ns + length ms - 1) ∷ [])),
-                length-append ms (node (joinedCode o m) (i + length ns - 1) (i + length ns + length ms - 1) ∷ [])) )
+        on ms is (hs, q, d) = (
+          (gs ++ (f ∷ [])) ++ (hs ++ (g ∷ [])),
+          ap (grown fs) is ∙ grown-two fs gs hs f g (joined o m f g) ns ms _ p q (ends-joined o m f g fs gs hs (i + length ns - 1) (i + length ns + length ms - 1) (omega arith) (omega arith)),
+          omega (
+            arith,
+            length-append (gs ++ (f ∷ [])) (hs ++ (g ∷ [])),
+            length-append gs (f ∷ []),
+            length-append hs (g ∷ []),
+            ap length is,
+            length-append ns (ms ++ (node (joinedCode o m) (i + length ns - 1) (i + length ns + length ms - 1) ∷ [])),
+            length-append ms (node (joinedCode o m) (i + length ns - 1) (i + length ns + length ms - 1) ∷ []),
+          ),
+        )
 
 grows : (f : Formula) → Grows f
 grows = induction Grows (λ fs i e. ([], grown-one fs (node 0 0 0), refl)) (λ j fs i e. ([], grown-one fs (node 1 j 0), refl)) grows-applied grows-joined

@@ -1,8 +1,8 @@
 -- What the reader refuses is what is to be told first, and a text that it reads breaks no rule.
 use mathlib.Core.Path.{_≡_, refl, sym, ap, _∙_, subst}
 use mathlib.Core.List.{List, [], _∷_, _++_, append-assoc, append-nil}
-use mathlib.Core.Logic.{_⊎_, inl, inr, ⊎-elim}
-use Prim.Native.Nat.{ℕ, suc, _<_, _≤_}
+use mathlib.Core.Logic.{_⊎_, ⊎-elim}
+use Prim.Native.Nat.{ℕ, _<_, _≤_}
 use native.Mathlib.Omega.{arith}
 use lib.ListN.{length}
 use Rattle.kripke.specs.Ctl.{Formula}
@@ -17,7 +17,7 @@ use Rattle.reader.specs.Tokens.{Stream, done, next, tokens, first, offset, kin
 use Rattle.reader.specs.Grammar.{Mark, mark, marks, toks, whole, Sentence, Viable, Asked, All, Within}
 use Rattle.reader.specs.Table.{table}
 use Rattle.reader.specs.Breaches.{Breach, long, unlimited, unexpected, unasked, deep, many, stage, Sooner, Limited}
-use Rattle.reader.specs.Phrases.{Then, Exact, Form, Why, Refused}
+use Rattle.reader.specs.Phrases.{Exact, Form, Why, Refused}
 use Rattle.reader.specs.Phrases as why
 use Rattle.reader.specs.Reading.{Text}
 use Rattle.reader.proofs.Streams.{Real, Rising, rising, rising-after, after-kinds, after-one, begins}
@@ -69,9 +69,11 @@ module _ (text : List ℕ) (q places : ℕ) (lim : Limited text q) (e : Refusal)
   t = first (z .at)
 
   goes-on : (v : List Mark) (i : ℕ) → z .w ≡ mark t i ∷ v → Viable (ts ++ (t ∷ []))
-  goes-on v i h =
-      ( z .value .0, toks v
-      , append-assoc ts (t ∷ []) (toks v) ∙ ap (λ l. ts ++ l) (ap toks (sym h)) ∙ sym (toks-append (z .pre) (z .w)) ∙ ap toks (z .spelt) )
+  goes-on v i h = (
+    z .value .0,
+    toks v,
+    append-assoc ts (t ∷ []) (toks v) ∙ ap (λ l. ts ++ l) (ap toks (sym h)) ∙ sym (toks-append (z .pre) (z .w)) ∙ ap toks (z .spelt),
+  )
 
   breach : (k : Cause) → Why Text q (z .pre) (z .w) t k → Breach text q places k (offset (z .at))
   breach k (why.unexpected h) = unexpected ts (z .at) (z .after)
@@ -98,12 +100,12 @@ module _ (text : List ℕ) (q places : ℕ) (lim : Limited text q) (e : Refusal)
       → ((m : List Token) → ts ≡ us ++ (first s2 ∷ m) → ⊥) → (us ≡ ts → s2 ≡ z .at → numberOf d < numberOf k → ⊥) → ⊥
   elsewhere d k us s2 h st so inside same =
       ⊎-elim (λ y. inside (y .0) (y .1))
-        (λ y. ⊎-elim (λ l. ⊎-elim (λ n. omega arith) (λ n. omega (arith, n .0)) near)
-          (λ e.
-            let there = after-one (tokens 0 0 text) us s2 (z .at) h (subst (λ (l : List Token). After (tokens 0 0 text) l (z .at)) e (z .after)) in
-            let o = ap offset there in
-            ⊎-elim (λ n. omega arith) (λ n. same (sym e) there (n .1)) near) y)
-        (compare 0 (tokens 0 0 text) (rising 0 0 text) ts us (z .at) s2 (z .after) h)
+      (λ y. ⊎-elim (λ l. ⊎-elim (λ n. omega arith) (λ n. omega (arith, n .0)) near)
+      (λ e.
+      let there = after-one (tokens 0 0 text) us s2 (z .at) h (subst (λ (l : List Token). After (tokens 0 0 text) l (z .at)) e (z .after)) in
+      let o = ap offset there in
+      ⊎-elim (λ n. omega arith) (λ n. same (sym e) there (n .1)) near) y)
+      (compare 0 (tokens 0 0 text) (rising 0 0 text) ts us (z .at) s2 (z .after) h)
     where
       near : (offset s2 < offset (z .at)) ⊎ ((offset s2 ≡ offset (z .at)) × (numberOf d < numberOf k))
       near = nearer d k (offset s2) (offset (z .at)) st so
@@ -113,8 +115,8 @@ module _ (text : List ℕ) (q places : ℕ) (lim : Limited text q) (e : Refusal)
   least k y d p so (unlimited h) = ⊎-elim (λ e. omega (arith, lim .some)) (λ e. omega (arith, lim .few)) h
   least k y d p so (unexpected us s2 h v w) =
       elsewhere cause.Unexpected k us s2 h (sym (middle k y)) so
-        (λ m e. w (expected q (z .value .0) (z .pre) (z .w) (z .good) (z .spelt) us (first s2) m e))
-        (λ e there n. w (subst (λ (l : List Token). Viable (l ++ (first s2 ∷ []))) (sym e) (subst (λ (x : Stream). Viable (ts ++ (first x ∷ []))) (sym there) (on k y n))))
+      (λ m e. w (expected q (z .value .0) (z .pre) (z .w) (z .good) (z .spelt) us (first s2) m e))
+      (λ e there n. w (subst (λ (l : List Token). Viable (l ++ (first s2 ∷ []))) (sym e) (subst (λ (x : Stream). Viable (ts ++ (first x ∷ []))) (sym there) (on k y n))))
     where
       on : (k : Cause) → Why Text q (z .pre) (z .w) t k → 10 < numberOf k → Viable (ts ++ (t ∷ []))
       on k (why.unexpected h) n = absurd (omega arith)
@@ -122,8 +124,8 @@ module _ (text : List ℕ) (q places : ℕ) (lim : Limited text q) (e : Refusal)
       on k (why.deep v a b) n = goes-on v 65 a
   least k y d p so (unasked us s2 j h i v l) =
       elsewhere cause.QuestionNumber k us s2 h (sym (middle k y)) so
-        (λ m e. not-unasked q (z .value .0) (z .pre) (z .w) (z .good) (z .spelt) us (first s2) m e j i l)
-        (λ e there n. below k y n (ap first (sym there) ∙ i))
+      (λ m e. not-unasked q (z .value .0) (z .pre) (z .w) (z .good) (z .spelt) us (first s2) m e j i l)
+      (λ e there n. below k y n (ap first (sym there) ∙ i))
     where
       below : (k : Cause) → Why Text q (z .pre) (z .w) t k → 11 < numberOf k → t ≡ token.Question j → ⊥
       below k (why.unexpected h) n i = omega arith
@@ -131,8 +133,8 @@ module _ (text : List ℕ) (q places : ℕ) (lim : Limited text q) (e : Refusal)
       below k (why.deep v a b) n i = let g : j < q = subst (Asked q) i b in omega arith
   least k y d p so (deep us s2 g ps qs h i r) =
       elsewhere cause.TooDeep k us s2 h (sym (middle k y)) so
-        (λ m e. not-deep q (z .value .0) (z .pre) (z .w) (z .good) (z .spelt) us (first s2) m e g ps qs i r)
-        (λ e there n. last k y n)
+      (λ m e. not-deep q (z .value .0) (z .pre) (z .w) (z .good) (z .spelt) us (first s2) m e g ps qs i r)
+      (λ e there n. last k y n)
     where
       last : (k : Cause) → Why Text q (z .pre) (z .w) t k → 12 < numberOf k → ⊥
       last k (why.unexpected h) n = omega arith
@@ -142,10 +144,10 @@ module _ (text : List ℕ) (q places : ℕ) (lim : Limited text q) (e : Refusal)
 
   pub told : FirstBy Sooner (Breach text q places) layer.Text e
   told = record {
-      broken = subst (Breach text q places (e .cause)) (z .here) (breach (e .cause) (z .why));
-      least = λ d p so b. least (e .cause) (z .why) d p (subst (Sooner d p (e .cause)) (sym (z .here)) so) b;
-      layered = z .layered
-    }
+    broken = subst (Breach text q places (e .cause)) (z .here) (breach (e .cause) (z .why));
+    least = λ d p so b. least (e .cause) (z .why) d p (subst (Sooner d p (e .cause)) (sym (z .here)) so) b;
+    layered = z .layered;
+  }
 
 -- A formula, and then the end of the text, or something else.
 ends : (m : ℕ) (s : Stream) → Rising m s → first s ≡ token.End → kinds s ≡ token.End ∷ []
@@ -161,4 +163,4 @@ pub goes-past : (text : List ℕ) (q : ℕ) (f : Formula) (s : Stream) (e : Refu
     → (first s ≡ token.End → ⊥) → Tells s cause.Unexpected e → Refused Text q (tokens 0 0 text) e
 goes-past text q f s e h al never z =
     in-second (Form 1) (Exact token.End) (λ g. unique g 1) q (tokens 0 0 text) s e f h al
-      (nothing-taken (Exact token.End) q s e (z .here) (z .layered) (z .caused) (λ y r v p. never (cc)))
+    (nothing-taken (Exact token.End) q s e (z .here) (z .layered) (z .caused) (λ y r v p. never (cc)))

@@ -25,8 +25,8 @@ Decided P false = P → ⊥
 abbrev pub single : ℕ → Token
 single b =
     cond (eqb b 84) Truth (cond (eqb b 33) (token.Unary Not) (cond (eqb b 38) (Sign And) (cond (eqb b 124) (Sign Or)
-      (cond (eqb b 40) (Sign Open) (cond (eqb b 41) (Sign Close) (cond (eqb b 91) (Sign Left) (cond (eqb b 93) (Sign Right)
-        (cond (eqb b 85) (Sign Until) (cond (eqb b 69) (Alone Exists) (cond (eqb b 65) (Alone Forall) Other))))))))))
+    (cond (eqb b 40) (Sign Open) (cond (eqb b 41) (Sign Close) (cond (eqb b 91) (Sign Left) (cond (eqb b 93) (Sign Right)
+    (cond (eqb b 85) (Sign Until) (cond (eqb b 69) (Alone Exists) (cond (eqb b 65) (Alone Forall) Other))))))))))
 
 -- The operators of two bytes: E or A directly before X, F or G.
 abbrev pub step : ℕ → Unary → Unary → Unary → Option Unary

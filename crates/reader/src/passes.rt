@@ -14,7 +14,9 @@ use kripke::refusal::Refusal;
 
 // The most bytes of a text, the most questions of a kind, and the most nodes of a table.
 const TEXT_BYTES: usize = 4096;
+
 const QUESTIONS: usize = 32;
+
 const NODES: usize = 2045;
 
 // The limits of the text and of the stated count of questions.

@@ -36,7 +36,11 @@ pub struct Reader<'a> {
 pub fn refusal(cause: Cause, place: usize) -> Refusal
     ensures { λ r. ⌜ (r .cause ≡ cause) × (r .layer ≡ Text) × (r .place ≡ place) ⌝ }
 {
-    Refusal { cause, layer: Layer::Text, place }
+    Refusal {
+        cause,
+        layer: Layer::Text,
+        place,
+    }
 }
 
 // Whether no level is left.
@@ -190,11 +194,32 @@ impl<'a> Reader<'a> {
         ensures owes { λ r. ⌜ ((l : ℕ) → l + levels ≡ 65 → Owes (Form l) (λ f own. Laying (now (self .entry) .used) (now (places .entry)) f own (now (self .exit) .used) (now (places .exit))) questions (view (now (self .entry))) (view (now (self .exit))) r) ⌝ }
     {
         match self.head(questions, levels)? {
-            Head::Truth => Ok(self.push(places, Node { code: 0, a: 0, b: 0 })),
-            Head::Question(j) => Ok(self.push(places, Node { code: 1, a: j as u16, b: 0 })),
+            Head::Truth => Ok(self.push(
+                places,
+                Node {
+                    code: 0,
+                    a: 0,
+                    b: 0,
+                },
+            )),
+            Head::Question(j) => Ok(self.push(
+                places,
+                Node {
+                    code: 1,
+                    a: j as u16,
+                    b: 0,
+                },
+            )),
             Head::Unary(operator) => {
                 let a = self.formula(questions, levels - 1, places)?;
-                Ok(self.push(places, Node { code: unary_code(operator), a, b: 0 }))
+                Ok(self.push(
+                    places,
+                    Node {
+                        code: unary_code(operator),
+                        a,
+                        b: 0,
+                    },
+                ))
             }
             Head::Binary(opening) => {
                 self.open(opening)?;
@@ -213,7 +238,11 @@ pub fn read_whole(text: &[u8], questions: usize, places: &mut [Node]) -> Result<
     requires { ⌜ length (now text) ≤ 4096 ⌝ }
     ensures { λ r. ⌜ Parsed (now (text .entry)) questions (now (places .entry)) (now (places .exit)) r ⌝ }
 {
-    let mut reader = Reader { text, at: 0, used: 0 };
+    let mut reader = Reader {
+        text,
+        at: 0,
+        used: 0,
+    };
     let _own = reader.formula(questions, LEVELS, places)?;
     let (token, part) = reader.token();
     match token {

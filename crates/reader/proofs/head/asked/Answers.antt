@@ -1,4 +1,4 @@
-use mathlib.Core.Path.{_≡_, refl, sym, ap, _∙_, subst}
+use mathlib.Core.Path.{_≡_, refl, sym, subst}
 use mathlib.Core.Bool.{Bool, true, false}
 use Prim.Native.Nat.{ℕ}
 use lib.Dec.{ltb}
@@ -15,4 +15,4 @@ below c j false e = (j, refl, ltb-false j c e)
 pub returns-in-Question : need.returns-in-Question
 returns-in-Question c =
     subst (λ (h : Head). Answerable (c .args .questions) h (ltb (c .in-Question .j) (c .args .questions))) (sym (c .in-Question .is))
-      (below (c .args .questions) (c .in-Question .j) (ltb (c .in-Question .j) (c .args .questions)) refl)
+    (below (c .args .questions) (c .in-Question .j) (ltb (c .in-Question .j) (c .args .questions)) refl)

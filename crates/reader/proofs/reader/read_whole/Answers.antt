@@ -1,4 +1,4 @@
-use mathlib.Core.Path.{_≡_, refl, sym, ap, _∙_, subst}
+use mathlib.Core.Path.{_≡_, refl, sym, _∙_, subst}
 use native.Mathlib.Omega.{arith}
 use Prim.Native.Nat.{ℕ}
 use Rattle.std.specs.declared.result.Result.{Result}
@@ -18,8 +18,8 @@ returns-in-Break--own c =
     let s : Stream = tokens 0 0 (c .args .text .now) in
     let p = err-from-errBy (c .from-residual .result) (c .from-residual .ensures .1) in
     subst (λ (r : Result ℕ Refusal). Parsed (c .args .text .now) (c .args .questions) (c .args .places .now) (c .formula .last .places) r) (sym (p .1))
-      (subst (Refused Text (c .args .questions) s) (sym (p .2))
-        (in-first (Form 1) (Exact token.End) (c .args .questions) s _ (c .in-Break--own .ensures tt .owes 1 refl)))
+    (subst (Refused Text (c .args .questions) s) (sym (p .2))
+    (in-first (Form 1) (Exact token.End) (c .args .questions) s _ (c .in-Break--own .ensures tt .owes 1 refl)))
 
 pub returns-in-End : need.returns-in-End
 returns-in-End c =
@@ -30,7 +30,7 @@ returns-in-End c =
       sentence = sentence (c .args .text .now) (z .value) (view (c .formula .last .self)) (z .after) (n .is ∙ c .in-End .is);
       within = z .good;
       counted = n .used ∙ z .is .counted ∙ (omega arith);
-      written = z .is .written
+      written = z .is .written;
     }
 
 pub returns-in-rest : need.returns-in-rest

@@ -1,11 +1,9 @@
-use mathlib.Core.Path.{_≡_, refl, sym, ap, _∙_, subst}
-use mathlib.Core.List.{List}
-use Prim.Native.Nat.{ℕ, suc, _+_, _-_, _≤_, _<_}
+use mathlib.Core.Path.{refl, ap, _∙_, subst}
+use Prim.Native.Nat.{ℕ, suc, _+_, _-_}
 use native.Mathlib.Omega.{arith}
 use lib.ListN.{length, set}
 use Rattle.kripke.specs.Ctl.{truth, question}
 use Rattle.reader.specs.declared.head.Head.{Head}
-use Rattle.reader.specs.declared.head.Head.the-variants as head
 use Rattle.reader.specs.Tokens.{Stream}
 use Rattle.reader.specs.Phrases.{Form, Begun, applied, joined}
 use Rattle.reader.specs.Reading.{view, Laying}
@@ -23,7 +21,7 @@ returns-in-Break-a t c =
     record {
       grown = record { standing = c .formula .ensures .grown .standing; few = omega (arith, c .formula .ensures .grown .few, c .head .ensures .moved .forward, c .head .ensures .moved .used) };
       owes = λ l e. broke (Form l) _ q s0 _ _ _ (c .from-residual-in-Break-a .ensures .1)
-        (argument-fails q l s0 s1 (c .in-Unary .operator) (subst (λ (h : Head). Begun q l s0 h s1) (c .in-Unary .is) (c .in-Continue-head .ensures tt .begins l e)) _
+          (argument-fails q l s0 s1 (c .in-Unary .operator) (subst (λ (h : Head). Begun q l s0 h s1) (c .in-Unary .is) (c .in-Continue-head .ensures tt .begins l e)) _
           (c .in-Break-a .ensures tt .owes (suc l) (omega (arith, c .in-Continue-head .ensures tt .onward .1))));
     }
 
@@ -35,7 +33,7 @@ returns-in-Break-open t c =
     record {
       grown = record { standing = c .open .ensures .moved .standing; few = omega (arith, c .open .ensures .moved .forward, c .open .ensures .moved .used, c .head .ensures .moved .forward, c .head .ensures .moved .used) };
       owes = λ l e. broke (Form l) _ q s0 _ _ _ (c .from-residual-in-Break-open .ensures .1)
-        (open-fails q l (c .in-Binary .opening) s0 s1 s1 s1 s1 s1 s1 (subst (λ (h : Head). Begun q l s0 h s1) (c .in-Binary .is) (c .in-Continue-head .ensures tt .begins l e)) _
+          (open-fails q l (c .in-Binary .opening) s0 s1 s1 s1 s1 s1 s1 (subst (λ (h : Head). Begun q l s0 h s1) (c .in-Binary .is) (c .in-Continue-head .ensures tt .begins l e)) _
           (c .in-Break-open .ensures tt .owes q));
     }
 
@@ -50,13 +48,13 @@ returns-in-Truth t c =
     let long = ap (λ x. length (x .now)) (p .text) in
     record {
       grown = record {
-          standing = record { within = omega (arith, st .within, p .at); short = omega (arith, st .short); few = omega (arith, p .at, p .used, c .in-Continue-head .ensures tt .onward .0) };
-          few = omega (arith, p .at, p .used, c .in-Continue-head .ensures tt .onward .0)
-        };
+        standing = record { within = omega (arith, st .within, p .at); short = omega (arith, st .short); few = omega (arith, p .at, p .used, c .in-Continue-head .ensures tt .onward .0) };
+        few = omega (arith, p .at, p .used, c .in-Continue-head .ensures tt .onward .0);
+      };
       owes = λ l e. taken q l s0 s1 _ truth _ _
-        (truth-taken q l s0 s1 (subst (λ (h : Head). Begun q l s0 h s1) (c .in-Truth .is) (c .in-Continue-head .ensures tt .begins l e)))
-        (same-view (c .head .last .self) (c .push .last .self) (p .text) (p .at))
-        (leaf-laid (c .args .self .now .used) (c .args .places .now) truth (node 0 0 0) _ _ _ refl (p .own ∙ u) (omega (arith, p .used)) (p .written ∙ ap (λ (k : ℕ). set (c .args .places .now) k (node 0 0 0)) u));
+          (truth-taken q l s0 s1 (subst (λ (h : Head). Begun q l s0 h s1) (c .in-Truth .is) (c .in-Continue-head .ensures tt .begins l e)))
+          (same-view (c .head .last .self) (c .push .last .self) (p .text) (p .at))
+          (leaf-laid (c .args .self .now .used) (c .args .places .now) truth (node 0 0 0) _ _ _ refl (p .own ∙ u) (omega (arith, p .used)) (p .written ∙ ap (λ (k : ℕ). set (c .args .places .now) k (node 0 0 0)) u));
     }
 
 pub returns-in-Question : need.returns-in-Question
@@ -70,13 +68,13 @@ returns-in-Question t c =
     let long = ap (λ x. length (x .now)) (p .text) in
     record {
       grown = record {
-          standing = record { within = omega (arith, st .within, p .at); short = omega (arith, st .short); few = omega (arith, p .at, p .used, c .in-Continue-head .ensures tt .onward .0) };
-          few = omega (arith, p .at, p .used, c .in-Continue-head .ensures tt .onward .0)
-        };
+        standing = record { within = omega (arith, st .within, p .at); short = omega (arith, st .short); few = omega (arith, p .at, p .used, c .in-Continue-head .ensures tt .onward .0) };
+        few = omega (arith, p .at, p .used, c .in-Continue-head .ensures tt .onward .0);
+      };
       owes = λ l e. taken q l s0 s1 _ (question (c .in-Question .j)) _ _
-        (question-taken q l s0 s1 (c .in-Question .j) (subst (λ (h : Head). Begun q l s0 h s1) (c .in-Question .is) (c .in-Continue-head .ensures tt .begins l e)))
-        (same-view (c .head .last .self) (c .push-in-Question .last .self) (p .text) (p .at))
-        (leaf-laid (c .args .self .now .used) (c .args .places .now) (question (c .in-Question .j)) (node 1 (c .in-Question .j) 0) _ _ _ refl (p .own ∙ u) (omega (arith, p .used)) (p .written ∙ ap (λ (k : ℕ). set (c .args .places .now) k (node 1 (c .in-Question .j) 0)) u));
+          (question-taken q l s0 s1 (c .in-Question .j) (subst (λ (h : Head). Begun q l s0 h s1) (c .in-Question .is) (c .in-Continue-head .ensures tt .begins l e)))
+          (same-view (c .head .last .self) (c .push-in-Question .last .self) (p .text) (p .at))
+          (leaf-laid (c .args .self .now .used) (c .args .places .now) (question (c .in-Question .j)) (node 1 (c .in-Question .j) 0) _ _ _ refl (p .own ∙ u) (omega (arith, p .used)) (p .written ∙ ap (λ (k : ℕ). set (c .args .places .now) k (node 1 (c .in-Question .j) 0)) u));
     }
 
 pub returns-in-Continue-a : need.returns-in-Continue-a
@@ -92,17 +90,17 @@ returns-in-Continue-a t c =
     let on = c .in-Continue-head .ensures tt .onward in
     record {
       grown = record {
-          standing = record { within = omega (arith, st .within, p .at); short = omega (arith, st .short); few = omega (arith, p .at, p .used, on .0, c .formula .ensures .grown .few) };
-          few = omega (arith, p .at, p .used, on .0, c .formula .ensures .grown .few)
-        };
+        standing = record { within = omega (arith, st .within, p .at); short = omega (arith, st .short); few = omega (arith, p .at, p .used, on .0, c .formula .ensures .grown .few) };
+        few = omega (arith, p .at, p .used, on .0, c .formula .ensures .grown .few);
+      };
       owes = λ l e.
-        let z = c .in-Continue-a .ensures tt .owes (suc l) (omega (arith, on .1)) in
-        taken q l s0 s2 _ (applied (c .in-Unary .operator) (z .value)) _ _
+          let z = c .in-Continue-a .ensures tt .owes (suc l) (omega (arith, on .1)) in
+          taken q l s0 s2 _ (applied (c .in-Unary .operator) (z .value)) _ _
           (applied-taken q l s0 s1 (c .in-Unary .operator) (subst (λ (h : Head). Begun q l s0 h s1) (c .in-Unary .is) (c .in-Continue-head .ensures tt .begins l e)) s2 (z .value) (z .after) (z .good))
           (same-view (c .formula .last .self) (c .push-in-Unary .last .self) (p .text) (p .at))
           (applied-laid (c .args .self .now .used) (c .args .places .now) (c .in-Unary .operator) (z .value) (c .in-Continue-a .a) (c .formula .last .self .used) (c .formula .last .places) (c .unary-code .result) _ _ _
-            (subst (λ (k : ℕ). Laying k (c .args .places .now) (z .value) (c .in-Continue-a .a) (c .formula .last .self .used) (c .formula .last .places)) u (z .is))
-            (c .unary-code .ensures) (p .own) (p .used) (p .written));
+          (subst (λ (k : ℕ). Laying k (c .args .places .now) (z .value) (c .in-Continue-a .a) (c .formula .last .self .used) (c .formula .last .places)) u (z .is))
+          (c .unary-code .ensures) (p .own) (p .used) (p .written));
     }
 
 pub returns-in-Break-a-2 : need.returns-in-Break-a-2
@@ -118,10 +116,10 @@ returns-in-Break-a-2 t c =
     record {
       grown = record { standing = c .formula-in-Binary .ensures .grown .standing; few = omega (arith, mh .forward, mh .used, mo .forward, mo .used, c .formula-in-Binary .ensures .grown .few) };
       owes = λ l e.
-        let x = c .in-Continue-open .ensures tt .owes q in
-        broke (Form l) _ q s0 _ _ _ (c .from-residual-in-Break-a-2 .ensures .1)
+          let x = c .in-Continue-open .ensures tt .owes q in
+          broke (Form l) _ q s0 _ _ _ (c .from-residual-in-Break-a-2 .ensures .1)
           (first-fails q l o s0 s1 s2 s2 s2 s2 s2 (subst (λ (h : Head). Begun q l s0 h s1) (c .in-Binary .is) (c .in-Continue-head .ensures tt .begins l e))
-            (x .value) (x .after) (x .good) _ (c .in-Break-a-2 .ensures tt .owes (suc l) (omega (arith, on .1))));
+          (x .value) (x .after) (x .good) _ (c .in-Break-a-2 .ensures tt .owes (suc l) (omega (arith, on .1))));
     }
 
 pub returns-in-Break-code : need.returns-in-Break-code
@@ -139,11 +137,11 @@ returns-in-Break-code t c =
     record {
       grown = record { standing = c .middle .ensures .moved .standing; few = omega (arith, mh .forward, mh .used, mo .forward, mo .used, fa, c .middle .ensures .moved .forward, c .middle .ensures .moved .used) };
       owes = λ l e.
-        let x = c .in-Continue-open .ensures tt .owes q in
-        let f = c .in-Continue-a-2 .ensures tt .owes (suc l) (omega (arith, on .1)) in
-        broke (Form l) _ q s0 _ _ _ (c .from-residual-in-Break-code .ensures .1)
+          let x = c .in-Continue-open .ensures tt .owes q in
+          let f = c .in-Continue-a-2 .ensures tt .owes (suc l) (omega (arith, on .1)) in
+          broke (Form l) _ q s0 _ _ _ (c .from-residual-in-Break-code .ensures .1)
           (middle-fails q l o s0 s1 s2 s3 s3 s3 s3 (subst (λ (h : Head). Begun q l s0 h s1) (c .in-Binary .is) (c .in-Continue-head .ensures tt .begins l e))
-            (x .value) (x .after) (x .good) (f .value) (f .after) (f .good) _ (c .in-Break-code .ensures tt .owes q));
+          (x .value) (x .after) (x .good) (f .value) (f .after) (f .good) _ (c .in-Break-code .ensures tt .owes q));
     }
 
 pub returns-in-Break-b : need.returns-in-Break-b
@@ -163,12 +161,12 @@ returns-in-Break-b t c =
     record {
       grown = record { standing = c .formula-in-Binary-2 .ensures .grown .standing; few = omega (arith, mh .forward, mh .used, mo .forward, mo .used, fa, mm .forward, mm .used, c .formula-in-Binary-2 .ensures .grown .few) };
       owes = λ l e.
-        let x = c .in-Continue-open .ensures tt .owes q in
-        let f = c .in-Continue-a-2 .ensures tt .owes (suc l) (omega (arith, on .1)) in
-        let m = c .in-Continue-code .ensures tt .owes q in
-        broke (Form l) _ q s0 _ _ _ (c .from-residual-in-Break-b .ensures .1)
+          let x = c .in-Continue-open .ensures tt .owes q in
+          let f = c .in-Continue-a-2 .ensures tt .owes (suc l) (omega (arith, on .1)) in
+          let m = c .in-Continue-code .ensures tt .owes q in
+          broke (Form l) _ q s0 _ _ _ (c .from-residual-in-Break-b .ensures .1)
           (second-fails q l o s0 s1 s2 s3 s4 s4 s4 (subst (λ (h : Head). Begun q l s0 h s1) (c .in-Binary .is) (c .in-Continue-head .ensures tt .begins l e))
-            (x .value) (x .after) (x .good) (f .value) (f .after) (f .good) (m .value) (m .after) (m .good) _ (c .in-Break-b .ensures tt .owes (suc l) (omega (arith, on .1))));
+          (x .value) (x .after) (x .good) (f .value) (f .after) (f .good) (m .value) (m .after) (m .good) _ (c .in-Break-b .ensures tt .owes (suc l) (omega (arith, on .1))));
     }
 
 pub returns-in-Break-close : need.returns-in-Break-close
@@ -190,13 +188,13 @@ returns-in-Break-close t c =
     record {
       grown = record { standing = c .close .ensures .moved .standing; few = omega (arith, mh .forward, mh .used, mo .forward, mo .used, fa, mm .forward, mm .used, fb, c .close .ensures .moved .forward, c .close .ensures .moved .used) };
       owes = λ l e.
-        let x = c .in-Continue-open .ensures tt .owes q in
-        let f = c .in-Continue-a-2 .ensures tt .owes (suc l) (omega (arith, on .1)) in
-        let m = c .in-Continue-code .ensures tt .owes q in
-        let g = c .in-Continue-b .ensures tt .owes (suc l) (omega (arith, on .1)) in
-        broke (Form l) _ q s0 _ _ _ (c .from-residual-in-Break-close .ensures .1)
+          let x = c .in-Continue-open .ensures tt .owes q in
+          let f = c .in-Continue-a-2 .ensures tt .owes (suc l) (omega (arith, on .1)) in
+          let m = c .in-Continue-code .ensures tt .owes q in
+          let g = c .in-Continue-b .ensures tt .owes (suc l) (omega (arith, on .1)) in
+          broke (Form l) _ q s0 _ _ _ (c .from-residual-in-Break-close .ensures .1)
           (close-fails q l o s0 s1 s2 s3 s4 s5 s5 (subst (λ (h : Head). Begun q l s0 h s1) (c .in-Binary .is) (c .in-Continue-head .ensures tt .begins l e))
-            (x .value) (x .after) (x .good) (f .value) (f .after) (f .good) (m .value) (m .after) (m .good) (g .value) (g .after) (g .good) _ (c .in-Break-close .ensures tt .owes q));
+          (x .value) (x .after) (x .good) (f .value) (f .after) (f .good) (m .value) (m .after) (m .good) (g .value) (g .after) (g .good) _ (c .in-Break-close .ensures tt .owes q));
     }
 
 pub returns-in-Continue-close : need.returns-in-Continue-close
@@ -222,25 +220,25 @@ returns-in-Continue-close t c =
     let long = ap (λ x. length (x .now)) (p .text) in
     record {
       grown = record {
-          standing = record {
-            within = omega (arith, st .within, p .at);
-            short = omega (arith, st .short);
-            few = omega (arith, p .at, p .used, on .0, mh .used, mo .forward, mo .used, fa, mm .forward, mm .used, fb, mc .forward, mc .used)
-          };
-          few = omega (arith, p .at, p .used, on .0, mh .used, mo .forward, mo .used, fa, mm .forward, mm .used, fb, mc .forward, mc .used)
+        standing = record {
+          within = omega (arith, st .within, p .at);
+          short = omega (arith, st .short);
+          few = omega (arith, p .at, p .used, on .0, mh .used, mo .forward, mo .used, fa, mm .forward, mm .used, fb, mc .forward, mc .used);
         };
+        few = omega (arith, p .at, p .used, on .0, mh .used, mo .forward, mo .used, fa, mm .forward, mm .used, fb, mc .forward, mc .used);
+      };
       owes = λ l e.
-        let x = c .in-Continue-open .ensures tt .owes q in
-        let f = c .in-Continue-a-2 .ensures tt .owes (suc l) (omega (arith, on .1)) in
-        let m = c .in-Continue-code .ensures tt .owes q in
-        let g = c .in-Continue-b .ensures tt .owes (suc l) (omega (arith, on .1)) in
-        let y = c .in-Continue-close .ensures tt .owes q in
-        taken q l s0 s6 _ (joined o (m .value) (f .value) (g .value)) _ _
+          let x = c .in-Continue-open .ensures tt .owes q in
+          let f = c .in-Continue-a-2 .ensures tt .owes (suc l) (omega (arith, on .1)) in
+          let m = c .in-Continue-code .ensures tt .owes q in
+          let g = c .in-Continue-b .ensures tt .owes (suc l) (omega (arith, on .1)) in
+          let y = c .in-Continue-close .ensures tt .owes q in
+          taken q l s0 s6 _ (joined o (m .value) (f .value) (g .value)) _ _
           (joined-taken q l o s0 s1 s2 s3 s4 s5 s6 (subst (λ (h : Head). Begun q l s0 h s1) (c .in-Binary .is) (c .in-Continue-head .ensures tt .begins l e)) (x .value) (x .after) (x .good) (f .value) (f .after) (f .good) (m .value) (m .after) (m .good) (g .value) (g .after) (g .good) (y .value) (y .after) (y .good))
           (same-view (c .close .last .self) (c .push-in-Binary .last .self) (p .text) (p .at))
           (joined-laid (c .args .self .now .used) (c .args .places .now) o (m .value) (f .value) (g .value) (c .in-Continue-a-2 .a) (c .formula-in-Binary .last .self .used) (c .formula-in-Binary .last .places)
-            (c .in-Continue-b .b) (c .formula-in-Binary-2 .last .self .used) (c .formula-in-Binary-2 .last .places) (c .in-Continue-code .code) _ _ _
-            (subst (λ (k : ℕ). Laying k (c .args .places .now) (f .value) (c .in-Continue-a-2 .a) (c .formula-in-Binary .last .self .used) (c .formula-in-Binary .last .places)) (mo .used ∙ mh .used) (f .is))
-            (subst (λ (k : ℕ). Laying k (c .formula-in-Binary .last .places) (g .value) (c .in-Continue-b .b) (c .formula-in-Binary-2 .last .self .used) (c .formula-in-Binary-2 .last .places)) (mm .used) (g .is))
-            (m .is) (p .own ∙ mc .used) (p .used ∙ ap (λ (k : ℕ). k + 1) (mc .used)) (p .written ∙ ap (λ (k : ℕ). set (c .formula-in-Binary-2 .last .places) k (node (c .in-Continue-code .code) (c .in-Continue-a-2 .a) (c .in-Continue-b .b))) (mc .used)));
+          (c .in-Continue-b .b) (c .formula-in-Binary-2 .last .self .used) (c .formula-in-Binary-2 .last .places) (c .in-Continue-code .code) _ _ _
+          (subst (λ (k : ℕ). Laying k (c .args .places .now) (f .value) (c .in-Continue-a-2 .a) (c .formula-in-Binary .last .self .used) (c .formula-in-Binary .last .places)) (mo .used ∙ mh .used) (f .is))
+          (subst (λ (k : ℕ). Laying k (c .formula-in-Binary .last .places) (g .value) (c .in-Continue-b .b) (c .formula-in-Binary-2 .last .self .used) (c .formula-in-Binary-2 .last .places)) (mm .used) (g .is))
+          (m .is) (p .own ∙ mc .used) (p .used ∙ ap (λ (k : ℕ). k + 1) (mc .used)) (p .written ∙ ap (λ (k : ℕ). set (c .formula-in-Binary-2 .last .places) k (node (c .in-Continue-code .code) (c .in-Continue-a-2 .a) (c .in-Continue-b .b))) (mc .used)));
     }

@@ -1,4 +1,4 @@
-use mathlib.Core.Path.{_≡_, sym, _∙_}
+use mathlib.Core.Path.{sym, _∙_}
 use Rattle.reader.proofs.Steps.{tells, sign-taken, sign-refused}
 use Rattle.reader.specs.Reading.{view}
 use Rattle.reader.proofs.reader.Reader.expect.Needs as need
@@ -17,5 +17,5 @@ returns-else-is-sign c =
     record {
       moved = record { standing = c .token-token .ensures .standing; forward = z .forward; used = z .used };
       owes = sign-refused (view (c .args .self .now)) (c .args .sign) _ (λ e. c .if-is-sign .ensures tt (sym (z .is) ∙ e))
-        (tells _ _ _ _ _ (z .here) (c .refusal .ensures));
+          (tells _ _ _ _ _ (z .here) (c .refusal .ensures));
     }

@@ -1,9 +1,9 @@
-use mathlib.Core.Path.{_≡_, refl, sym, ap, _∙_, subst}
-use Prim.Native.Nat.{ℕ, _≤_}
+use mathlib.Core.Path.{_≡_, sym, ap, _∙_, subst}
+use Prim.Native.Nat.{ℕ}
 use native.Mathlib.Omega.{arith}
 use Rattle.reader.specs.Phrases.{Form, headOf, Refused}
 use Rattle.reader.specs.Reading.{view}
-use Rattle.reader.proofs.Steps.{tells, head-forth, begun, not-begun, unasked-begun, deep-begun}
+use Rattle.reader.proofs.Steps.{tells, head-forth, not-begun, unasked-begun, deep-begun}
 use Rattle.reader.proofs.reader.Reader.head.Needs as need
 
 pub returns-in-rest : need.returns-in-rest
@@ -34,7 +34,7 @@ returns-then-spent c =
       moved = record { standing = c .token-token .ensures .standing; forward = z .forward; used = z .used };
       onward = tt;
       begins = λ l e.
-        let is : 65 ≡ l = omega (arith, c .if-spent .ensures tt) in
-        subst (λ (i : ℕ). Refused (Form i) (c .args .questions) (view (c .args .self .now)) (c .refusal-then-spent .result)) is
+          let is : 65 ≡ l = omega (arith, c .if-spent .ensures tt) in
+          subst (λ (i : ℕ). Refused (Form i) (c .args .questions) (view (c .args .self .now)) (c .refusal-then-spent .result)) is
           (deep-begun (c .args .questions) (view (c .args .self .now)) (c .refusal-then-spent .result) (c .in-Some .head) (z .is ∙ sym forth) (c .if-not-asked .ensures tt) (tells _ _ _ _ _ (z .here) (c .refusal-then-spent .ensures)));
     }

@@ -1,4 +1,4 @@
-use mathlib.Core.Path.{_≡_, sym, _∙_, refl}
+use mathlib.Core.Path.{sym, _∙_, refl}
 use Rattle.reader.proofs.Steps.{tells, link-taken, link-refused}
 use Rattle.reader.specs.Phrases.{conj, disj}
 use Rattle.reader.specs.Reading.{view}
@@ -26,5 +26,5 @@ returns-else-is-sign-2 c =
     record {
       moved = record { standing = c .token-token .ensures .standing; forward = z .forward; used = z .used };
       owes = link-refused (view (c .args .self .now)) _ (λ e. c .if-is-sign .ensures tt (sym (z .is) ∙ e)) (λ e. c .if-is-sign-2 .ensures tt (sym (z .is) ∙ e))
-        (tells _ _ _ _ _ (z .here) (c .refusal .ensures));
+          (tells _ _ _ _ _ (z .here) (c .refusal .ensures));
     }

@@ -1,4 +1,4 @@
-use mathlib.Core.Path.{_≡_, refl, sym, _∙_}
+use mathlib.Core.Path.{refl, sym, _∙_}
 use native.Mathlib.Omega.{arith}
 use Rattle.std.proofs.shelf.Lists.{set-past}
 use Rattle.reader.proofs.reader.Reader.push.Needs.{then-number-places, else-number-places}
@@ -6,11 +6,12 @@ use Rattle.reader.proofs.reader.Reader.push.Needs as need
 
 pub returns : need.returns
 returns c = record {
-    text = refl;
-    at = refl;
-    used = refl;
-    own = refl;
-    written = elim (c .if-number-places .came) [
-        then-number-places w ↦ w .places-is
-      | else-number-places w ↦ w .places-is ∙ sym (set-past (c .args .places .now) (c .args .self .now .used) (c .args .node) (omega arith)) ];
-  }
+  text = refl;
+  at = refl;
+  used = refl;
+  own = refl;
+  written = elim (c .if-number-places .came) [
+    | then-number-places w ↦ w .places-is
+    | else-number-places w ↦ w .places-is ∙ sym (set-past (c .args .places .now) (c .args .self .now .used) (c .args .node) (omega arith))
+  ];
+}
