@@ -71,7 +71,7 @@ pub record Readable (text : List ℕ) (q places : ℕ) (f : Formula) : Type 0 wh
   pub room : length (table f) ≤ places
   pub few : length (table f) ≤ 2045
 
--- Every text that is to be read is read.
+-- Every text that is to be read is read: none of them is refused.
 abbrev pub Complete : List ℕ → ℕ → ℕ → Result ℕ Refusal → Type 0
 Complete text q places (Ok n) = Unit {0}
 Complete text q places (Err e) = (f : Formula) → Readable text q places f → ⊥

@@ -33,6 +33,7 @@ pub struct Reader<'a> {
     used: usize,
 }
 
+// A refusal by the reader.
 pub fn refusal(cause: Cause, place: usize) -> Refusal
     ensures { λ r. ⌜ (r .cause ≡ cause) × (r .layer ≡ Text) × (r .place ≡ place) ⌝ }
 {
@@ -188,8 +189,7 @@ impl<'a> Reader<'a> {
 
     // A formula of at most `levels` levels: its nodes are made in order, and the number of its own, the last, is given.
     fn formula(&mut self, questions: usize, levels: u8, places: &mut [Node]) -> Result<u16, Refusal>
-        requires standing { ⌜ Standing (now self) ⌝ }
-        requires few { ⌜ levels ≤ 64 ⌝ }
+        requires { ⌜ Standing (now self) ⌝ }
         ensures grown { λ _. ⌜ Grown (now (self .entry)) (now (self .exit)) ⌝ }
         ensures owes { λ r. ⌜ ((l : ℕ) → l + levels ≡ 65 → Owes (Form l) (λ f own. Laying (now (self .entry) .used) (now (places .entry)) f own (now (self .exit) .used) (now (places .exit))) questions (view (now (self .entry))) (view (now (self .exit))) r) ⌝ }
     {
