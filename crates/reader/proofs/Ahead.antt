@@ -15,8 +15,7 @@ use Rattle.std.proofs.shelf.Tests.{eq-eqb, ne-eqb, cond-true, cond-false}
 use Rattle.reader.specs.declared.token.Token.{Token}
 use Rattle.reader.specs.declared.token.Token.the-variants.{End}
 use Rattle.reader.specs.declared.token.Unary.{Unary}
-use Rattle.reader.specs.declared.token.Unary.the-variants.{EX, AX, EF, AF, EG, AG}
-use Rattle.reader.specs.Tokens.{Stream, done, next, offset, first, rest, digit, numeral, step, operator, asking, acting, lex, tokens}
+use Rattle.reader.specs.Tokens.{done, next, offset, first, rest, digit, numeral, operator, asking, acting, lex, tokens}
 use Rattle.reader.specs.Reading.{ahead, Trimmed}
 
 pub space-on : (text : List ℕ) (at : ℕ) → at < length text → getD text at 0 ≡ 32 → ahead text (at + 1) ≡ ahead text at

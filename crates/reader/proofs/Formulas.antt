@@ -1,12 +1,10 @@
 -- A formula from its first token and what follows it: the exits of the reader of formulas.
 use mathlib.Core.Path.{_≡_, refl, sym, ap, _∙_, subst}
 use mathlib.Core.List.{List, [], _∷_, _++_}
-use Prim.Native.Nat.{ℕ, suc, _+_, _-_, _≤_, _<_}
-use native.Mathlib.Omega.{arith}
+use Prim.Native.Nat.{ℕ, suc, _+_, _-_}
 use Rattle.kripke.specs.Ctl.{Formula, truth, question}
 use Rattle.kripke.specs.declared.refusal.Refusal.{Refusal}
 use Rattle.kripke.specs.declared.refusal.Cause.{Cause}
-use Rattle.reader.specs.declared.token.Token.{Token}
 use Rattle.reader.specs.declared.token.Unary.{Unary}
 use Rattle.reader.specs.declared.head.Opening.{Opening}
 use Rattle.reader.specs.declared.head.Head.{Head}
@@ -14,10 +12,10 @@ use Rattle.reader.specs.declared.head.Head.the-variants as head
 use Rattle.reader.specs.declared.reader.Reader.{Reader}
 use Rattle.reader.specs.Tokens.{Stream, first, After}
 use Rattle.reader.specs.Grammar.{Mark, mark, marks, toks, All}
-use Rattle.reader.specs.Phrases.{Phrase, Then, Signed, Form, Opened, Middle, closing, joined, joinedCode, applied, appliedCode, opening, Why, unexpected, unasked, deep, Refused, Taken, Begun}
-use Rattle.reader.specs.Reading.{ahead, view, Laying}
+use Rattle.reader.specs.Phrases.{Signed, Form, Opened, Middle, closing, joined, applied, opening, Why, unexpected, unasked, deep, Refused, Taken, Begun}
+use Rattle.reader.specs.Reading.{ahead, view}
 use Rattle.reader.proofs.Streams.{after-append}
-use Rattle.reader.proofs.Phrases.{Unique, opened-unique, middle-unique, in-first, in-second, both-taken}
+use Rattle.reader.proofs.Phrases.{opened-unique, middle-unique, in-first, in-second, both-taken}
 use Rattle.reader.proofs.Heads.{Last, Second, Arguments, Tail, built, built-marks, inverse, unique}
 
 -- After a reader has only made a node.

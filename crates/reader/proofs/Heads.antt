@@ -1,14 +1,11 @@
 -- A formula by its first token: what follows it, and that there is one way to read it.
 use mathlib.Core.Path.{_≡_, refl, sym, ap, _∙_, subst}
-use mathlib.Core.List.{List, [], _∷_, _++_, append-assoc, append-nil}
-use Prim.Native.Nat.{ℕ, zero, suc, _≤_, _<_}
-use native.Mathlib.Omega.{arith}
-use Rattle.std.specs.declared.option.Option.{Option}
+use mathlib.Core.List.{List, _∷_, _++_}
+use Prim.Native.Nat.{ℕ, suc}
 use Rattle.std.specs.declared.option.Option.the-variants.{None, Some}
 use Rattle.kripke.specs.Ctl.{Formula, truth, question, not, and, or, EX, AX, EF, AF, EG, AG, EU, AU}
 use Rattle.reader.specs.declared.token.Token.{Token}
 use Rattle.reader.specs.declared.token.Token.the-variants as token
-use Rattle.reader.specs.declared.token.Sign.the-variants as sign
 use Rattle.reader.specs.declared.token.Unary.{Unary}
 use Rattle.reader.specs.declared.token.Unary.the-variants as unary
 use Rattle.reader.specs.declared.token.Quantifier.the-variants.{Exists, Forall}
@@ -16,9 +13,9 @@ use Rattle.reader.specs.declared.head.Opening.{Opening}
 use Rattle.reader.specs.declared.head.Opening.the-variants.{Pair, Until}
 use Rattle.reader.specs.declared.head.Head.{Head}
 use Rattle.reader.specs.declared.head.Head.the-variants as head
-use Rattle.reader.specs.Grammar.{Mark, mark, marks, toks}
+use Rattle.reader.specs.Grammar.{mark, marks, toks}
 use Rattle.reader.specs.Phrases.{Phrase, Then, Nothing, Signed, Form, conj, disj, Opened, Middle, closing, joined, applied, opening, headOf}
-use Rattle.reader.proofs.Phrases.{UniqueAt, Unique, clash, seq-unique, nothing-unique, exact-unique, opened-unique, middle-unique}
+use Rattle.reader.proofs.Phrases.{UniqueAt, clash, seq-unique, nothing-unique, exact-unique, opened-unique, middle-unique}
 
 -- What follows the first token, at level n.
 abbrev pub Last : ℕ → Opening → Phrase

@@ -1,11 +1,11 @@
 -- The nodes of a formula within the limits are well-formed.
-use mathlib.Core.Path.{_≡_, refl, sym, ap, _∙_, subst}
-use mathlib.Core.List.{List, [], _∷_, _++_, append-assoc}
-use mathlib.Core.Logic.{_⊎_, inl, inr, ⊎-elim}
-use Prim.Native.Nat.{ℕ, zero, suc, _+_, _-_, _≤_, _<_}
+use mathlib.Core.Path.{_≡_, refl, sym, subst}
+use mathlib.Core.List.{List, [], _∷_, _++_}
+use mathlib.Core.Logic.{_⊎_, ⊎-elim}
+use Prim.Native.Nat.{ℕ, zero, suc, _+_, _-_, _<_}
 use native.Mathlib.Omega.{arith}
 use lib.ListN.{length, getD}
-use Rattle.std.proofs.shelf.Lists.{length-append, getD-append-left, getD-append-right, getD-at}
+use Rattle.std.proofs.shelf.Lists.{length-append, getD-append-left, getD-append-right}
 use Rattle.std.proofs.shelf.Tests.{cases-lt}
 use Rattle.kripke.specs.Ctl.{Formula}
 use Rattle.kripke.specs.Nodes.{LawfulNode, blank, WellFormed}
@@ -19,7 +19,7 @@ use Rattle.reader.specs.declared.head.Opening.the-variants.{Pair, Until}
 use Rattle.reader.specs.declared.head.Head.the-variants as head
 use Rattle.reader.specs.Grammar.{Mark, mark, marks, All, Within}
 use Rattle.reader.specs.Phrases.{conj, disj, Opened, Middle, closing, applied, appliedCode, joined, joinedCode}
-use Rattle.reader.specs.Table.{node, one, two, nodes, table}
+use Rattle.reader.specs.Table.{node, nodes, table}
 use Rattle.reader.proofs.Heads.{built-marks, induction}
 use Rattle.reader.proofs.Tables.{applied-nodes, joined-nodes, some-node}
 

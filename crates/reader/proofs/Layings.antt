@@ -1,7 +1,7 @@
 -- The nodes of a formula, made after those of its arguments.
-use mathlib.Core.Path.{_≡_, refl, sym, ap, _∙_, subst}
+use mathlib.Core.Path.{_≡_, sym, ap, _∙_}
 use mathlib.Core.List.{List, [], _∷_, _++_}
-use Prim.Native.Nat.{ℕ, suc, _+_, _-_}
+use Prim.Native.Nat.{ℕ, _+_, _-_}
 use native.Mathlib.Omega.{arith}
 use lib.ListN.{length, set}
 use Rattle.std.proofs.shelf.Lists.{length-append}
@@ -9,7 +9,7 @@ use Rattle.kripke.specs.Ctl.{Formula}
 use Rattle.kripke.specs.declared.node.Node.{Node}
 use Rattle.reader.specs.declared.token.Unary.{Unary}
 use Rattle.reader.specs.declared.head.Opening.{Opening}
-use Rattle.reader.specs.Table.{node, one, two, nodes, laid}
+use Rattle.reader.specs.Table.{node, two, nodes, laid}
 use Rattle.reader.specs.Phrases.{Middle, joined, joinedCode, applied, appliedCode}
 use Rattle.reader.specs.Reading.{Laying}
 use Rattle.reader.proofs.Tables.{applied-nodes, joined-nodes}

@@ -2,7 +2,7 @@
 use mathlib.Core.Path.{_≡_, refl, sym, ap, _∙_, subst}
 use mathlib.Core.List.{List, [], _∷_, _++_, append-assoc, append-nil}
 use mathlib.Core.Logic.{_⊎_, inl, inr, ⊎-elim}
-use Prim.Native.Nat.{ℕ, zero, suc}
+use Prim.Native.Nat.{ℕ, suc}
 use Rattle.kripke.specs.Ctl.{Formula}
 use Rattle.reader.specs.declared.token.Token.{Token}
 use Rattle.reader.specs.declared.token.Token.the-variants as token
@@ -12,7 +12,7 @@ use Rattle.reader.specs.declared.head.Opening.the-variants.{Pair, Until}
 use Rattle.reader.specs.declared.head.Head.{Head}
 use Rattle.reader.specs.declared.head.Head.the-variants as head
 use Rattle.reader.specs.Grammar.{Mark, mark, marks, toks, whole}
-use Rattle.reader.specs.Phrases.{Phrase, Then, Nothing, Exact, Signed, Form, linking, Linked, Opened, Middle, closing, opening}
+use Rattle.reader.specs.Phrases.{Phrase, Then, Nothing, Exact, Signed, Form, linking, Opened, Middle, closing, opening}
 use Rattle.reader.proofs.Phrases.{clash}
 use Rattle.reader.proofs.Heads.{Last, Second, Arguments, Tail, built, built-marks, begins-with, one-head, induction}
 

@@ -1,7 +1,7 @@
 -- Phrases one after another: they are read in one way, and a refusal of a part is one of the whole.
 use mathlib.Core.Path.{_≡_, refl, sym, ap, _∙_, subst}
 use mathlib.Core.List.{List, [], _∷_, _++_, append-assoc}
-use Prim.Native.Nat.{ℕ, zero, suc, _≤_, _<_}
+use Prim.Native.Nat.{ℕ}
 use native.Mathlib.Omega.{arith}
 use Rattle.kripke.specs.declared.refusal.Refusal.{Refusal}
 use Rattle.kripke.specs.declared.refusal.Cause.{Cause}
@@ -13,8 +13,8 @@ use Rattle.reader.specs.declared.token.Sign.the-variants as sign
 use Rattle.reader.specs.declared.head.Opening.{Opening}
 use Rattle.reader.specs.declared.head.Opening.the-variants.{Pair, Until}
 use Rattle.reader.specs.Tokens.{Stream, first, offset, After}
-use Rattle.reader.specs.Grammar.{Mark, mark, toks, Asked, All}
-use Rattle.reader.specs.Phrases.{Phrase, Then, Nothing, Exact, Link, conj, disj, linking, Linked, Opened, Middle, Why, unexpected, unasked, deep, Refused, Taken}
+use Rattle.reader.specs.Grammar.{Mark, mark, toks, All}
+use Rattle.reader.specs.Phrases.{Phrase, Then, Nothing, Exact, conj, disj, Linked, Opened, Middle, Why, unexpected, unasked, deep, Refused}
 use Rattle.reader.proofs.Streams.{after-append}
 
 pub toks-append : (a b : List Mark) → toks (a ++ b) ≡ toks a ++ toks b

@@ -1,9 +1,8 @@
 -- One token read where a sign, a link or a formula is to begin.
 use mathlib.Core.Path.{_≡_, refl, sym, ap, _∙_, subst}
-use mathlib.Core.List.{List, [], _∷_, _++_}
-use Prim.Native.Nat.{ℕ, suc, _+_, _-_, _≤_, _<_}
+use mathlib.Core.List.{List, [], _∷_}
+use Prim.Native.Nat.{ℕ, _+_, _-_, _≤_}
 use native.Mathlib.Omega.{arith}
-use Rattle.std.specs.declared.option.Option.{Option}
 use Rattle.std.specs.declared.option.Option.the-variants.{None, Some}
 use Rattle.kripke.specs.Ctl.{Formula, question}
 use Rattle.kripke.specs.declared.refusal.Refusal.{Refusal}
@@ -14,13 +13,12 @@ use Rattle.reader.specs.declared.token.Token.{Token}
 use Rattle.reader.specs.declared.token.Token.the-variants as token
 use Rattle.reader.specs.declared.token.Sign.{Sign}
 use Rattle.reader.specs.declared.token.Sign.the-variants as sign
-use Rattle.reader.specs.declared.head.Opening.{Opening}
 use Rattle.reader.specs.declared.head.Opening.the-variants.{Pair, Until}
 use Rattle.reader.specs.declared.head.Head.{Head}
 use Rattle.reader.specs.declared.head.Head.the-variants as head
 use Rattle.reader.specs.Tokens.{Stream, first, rest, offset, After}
-use Rattle.reader.specs.Grammar.{Mark, mark, marks, toks, Asked}
-use Rattle.reader.specs.Phrases.{Phrase, Signed, Link, conj, disj, linking, Linked, Form, joinedCode, opening, headOf, Why, unasked, deep, Refused, Taken, Begun}
+use Rattle.reader.specs.Grammar.{mark, marks, Asked}
+use Rattle.reader.specs.Phrases.{Signed, Link, conj, disj, linking, Linked, Form, joinedCode, opening, headOf, Why, unasked, deep, Refused, Taken, Begun}
 use Rattle.reader.proofs.Streams.{Real, one-on}
 use Rattle.reader.proofs.Phrases.{clash, nothing-taken}
 use Rattle.reader.proofs.Heads.{Tail, built, built-marks, no-head}

@@ -1,25 +1,21 @@
 -- A formula's table: its numbers are in order, and its root is the formula.
-use mathlib.Core.Path.{_≡_, refl, sym, ap, _∙_, subst}
-use mathlib.Core.List.{List, [], _∷_, _++_, append-assoc, append-nil}
-use mathlib.Core.Logic.{_⊎_, inl, inr, ⊎-elim}
-use Prim.Native.Nat.{ℕ, zero, suc, _+_, _-_, _≤_, _<_}
+use mathlib.Core.Path.{_≡_, refl, sym, ap, _∙_}
+use mathlib.Core.List.{List, [], _∷_, _++_, append-assoc}
+use Prim.Native.Nat.{ℕ, _+_, _-_, _≤_}
 use native.Mathlib.Omega.{arith}
-use lib.ListN.{length, getD, set, drop, length-set}
-use Rattle.std.proofs.shelf.Lists.{length-append, getD-append-left, getD-append-right, getD-at, set-at}
-use Rattle.std.proofs.shelf.Tests.{cases-lt}
-use Rattle.kripke.specs.Ctl.{Formula, truth, question}
-use Rattle.kripke.specs.Nodes.{operator, made, grown, formulas, formula, root, LawfulNode, blank, WellFormed}
+use lib.ListN.{length, getD}
+use Rattle.std.proofs.shelf.Lists.{length-append, getD-append-left, getD-at}
+use Rattle.kripke.specs.Ctl.{Formula, truth}
+use Rattle.kripke.specs.Nodes.{made, grown, formulas, root}
 use Rattle.kripke.specs.declared.node.Node.{Node}
 use Rattle.reader.specs.declared.token.Unary.{Unary}
 use Rattle.reader.specs.declared.token.Unary.the-variants as unary
 use Rattle.reader.specs.declared.token.Quantifier.the-variants.{Exists, Forall}
 use Rattle.reader.specs.declared.head.Opening.{Opening}
 use Rattle.reader.specs.declared.head.Opening.the-variants.{Pair, Until}
-use Rattle.reader.specs.declared.head.Head.the-variants as head
-use Rattle.reader.specs.Grammar.{marks, All, Within}
-use Rattle.reader.specs.Phrases.{conj, disj, Opened, Middle, closing, applied, appliedCode, joined, joinedCode}
+use Rattle.reader.specs.Phrases.{conj, disj, Middle, applied, appliedCode, joined, joinedCode}
 use Rattle.reader.specs.Table.{node, one, two, nodes, table}
-use Rattle.reader.proofs.Heads.{built-marks, induction}
+use Rattle.reader.proofs.Heads.{induction}
 
 -- The nodes of an operator on its arguments.
 pub applied-nodes : (i : ℕ) (u : Unary) (f : Formula) → nodes i (applied u f) ≡ one (appliedCode u) i (nodes i f)

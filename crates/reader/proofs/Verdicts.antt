@@ -1,8 +1,8 @@
 -- What the reader refuses is what is to be told first, and a text that it reads breaks no rule.
 use mathlib.Core.Path.{_≡_, refl, sym, ap, _∙_, subst}
 use mathlib.Core.List.{List, [], _∷_, _++_, append-assoc, append-nil}
-use mathlib.Core.Logic.{_⊎_, inl, inr, ⊎-elim}
-use Prim.Native.Nat.{ℕ, suc, _<_, _≤_}
+use mathlib.Core.Logic.{_⊎_, ⊎-elim}
+use Prim.Native.Nat.{ℕ, _<_, _≤_}
 use native.Mathlib.Omega.{arith}
 use lib.ListN.{length}
 use Rattle.kripke.specs.Ctl.{Formula}
@@ -16,8 +16,8 @@ use Rattle.reader.specs.declared.token.Token.the-variants as token
 use Rattle.reader.specs.Tokens.{Stream, done, next, tokens, first, offset, kinds, After}
 use Rattle.reader.specs.Grammar.{Mark, mark, marks, toks, whole, Sentence, Viable, Asked, All, Within}
 use Rattle.reader.specs.Table.{table}
-use Rattle.reader.specs.Breaches.{Breach, long, unlimited, unexpected, unasked, deep, many, stage, Sooner}
-use Rattle.reader.specs.Phrases.{Then, Exact, Form, Why, Refused}
+use Rattle.reader.specs.Breaches.{Breach, long, unlimited, unexpected, unasked, deep, many, stage, Sooner, Limited}
+use Rattle.reader.specs.Phrases.{Exact, Form, Why, Refused}
 use Rattle.reader.specs.Phrases as why
 use Rattle.reader.specs.Reading.{Text}
 use Rattle.reader.proofs.Streams.{Real, Rising, rising, rising-after, after-kinds, after-one, begins}
@@ -26,12 +26,6 @@ use Rattle.reader.proofs.Steps.{Tells}
 use Rattle.reader.proofs.Heads.{unique}
 use Rattle.reader.proofs.Clear.{expected, not-unasked, not-deep}
 use Rattle.reader.proofs.Orders.{compare, nearer}
-
--- The text and the count are within their limits.
-pub record Limited (text : List ℕ) (q : ℕ) : Type 0 where
-  pub short : length text ≤ 4096
-  pub some : 1 ≤ q
-  pub few : q ≤ 32
 
 pub one-formula : (text : List ℕ) (f g : Formula) → Sentence text f → Sentence text g → f ≡ g
 one-formula text f g e h =

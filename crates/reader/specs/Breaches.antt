@@ -7,12 +7,13 @@ use Prim.Native.Nat.{ℕ, _<_, _≤_}
 use lib.Dec.{ltb}
 use lib.ListN.{length, drop}
 use Rattle.std.specs.declared.result.Result.{Result}
-use Rattle.std.specs.declared.result.Result.the-variants.{Ok}
+use Rattle.std.specs.declared.result.Result.the-variants.{Ok, Err}
 use Rattle.kripke.specs.Ctl.{Formula}
 use Rattle.kripke.specs.Nodes.{root, WellFormed}
-use Rattle.kripke.specs.Refusals.{numberOf}
+use Rattle.kripke.specs.Refusals.{numberOf, FirstBy}
 use Rattle.kripke.specs.declared.node.Node.{Node}
 use Rattle.kripke.specs.declared.refusal.Refusal.{Refusal}
+use Rattle.kripke.specs.declared.refusal.Layer.the-variants as layer
 use Rattle.kripke.specs.declared.refusal.Cause.{Cause}
 use Rattle.kripke.specs.declared.refusal.Cause.the-variants as cause
 use Rattle.reader.specs.declared.token.Token.{Token}
@@ -56,16 +57,25 @@ pub record Reads (text : List ℕ) (q : ℕ) (before after : List Node) (n : ℕ
   pub rooted : root (table formula) ≡ formula
   pub ordered : WellFormed q (table formula)
 
--- The formula is one that the reader is to read: the text is its sentence, and all limits are kept.
-pub record Readable (text : List ℕ) (q places : ℕ) (f : Formula) : Type 0 where
+-- The text and the stated count of questions are within their limits.
+pub record Limited (text : List ℕ) (q : ℕ) : Type 0 where
   pub short : length text ≤ 4096
   pub some : 1 ≤ q
   pub few : q ≤ 32
+
+-- The reader is to read the text as the formula f: it is a sentence of f, and all limits are kept.
+pub record Readable (text : List ℕ) (q places : ℕ) (f : Formula) : Type 0 where
+  pub limited : Limited text q
   pub sentence : Sentence text f
   pub within : Within q f
   pub room : length (table f) ≤ places
-  pub nodes : length (table f) ≤ 2045
+  pub few : length (table f) ≤ 2045
 
--- Every such formula is read.
+-- Every text that is to be read is read: none of them is refused.
 abbrev pub Complete : List ℕ → ℕ → ℕ → Result ℕ Refusal → Type 0
-Complete text q places r = (f : Formula) → Readable text q places f → r ≡ Ok (length (table f))
+Complete text q places (Ok n) = Unit {0}
+Complete text q places (Err e) = (f : Formula) → Readable text q places f → ⊥
+
+-- The refusal of a call that is judged so and complete.
+abbrev pub Refuses : List ℕ → ℕ → ℕ → Refusal → Type 0
+Refuses text q places e = FirstBy Sooner (Breach text q places) layer.Text e × ((f : Formula) → Readable text q places f → ⊥)

@@ -10,7 +10,7 @@ use Rattle.reader.specs.declared.token.Sign.the-variants.{And, Or, Open, Close
 use Rattle.reader.specs.declared.token.Unary.the-variants as unary
 use Rattle.reader.specs.declared.token.Quantifier.{Quantifier}
 use Rattle.reader.specs.declared.token.Quantifier.the-variants.{Exists, Forall}
-use Rattle.reader.specs.Tokens.{Stream, tokens, kinds}
+use Rattle.reader.specs.Tokens.{tokens, kinds}
 
 -- A token of a formula, and the level of the subformula that begins with it; 0 where none does.
 pub data Mark : Type 0 where

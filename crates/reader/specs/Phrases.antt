@@ -2,12 +2,12 @@
 use mathlib.Core.Path.{_≡_}
 use mathlib.Core.Bool.{Bool, true, false}
 use mathlib.Core.List.{List, [], _∷_, _++_}
-use Prim.Native.Nat.{ℕ, suc, _≤_, _<_}
+use Prim.Native.Nat.{ℕ, _≤_}
 use Rattle.std.specs.declared.option.Option.{Option}
 use Rattle.std.specs.declared.option.Option.the-variants.{None, Some}
 use Rattle.std.specs.declared.result.Result.{Result}
 use Rattle.std.specs.declared.result.Result.the-variants.{Ok, Err}
-use Rattle.kripke.specs.Ctl.{Formula, truth, question, not, and, or, EX, AX, EF, AF, EG, AG, EU, AU}
+use Rattle.kripke.specs.Ctl.{Formula, truth, not, and, or, EX, AX, EF, AF, EG, AG, EU, AU}
 use Rattle.kripke.specs.declared.refusal.Refusal.{Refusal}
 use Rattle.kripke.specs.declared.refusal.Layer.the-variants as layer
 use Rattle.kripke.specs.declared.refusal.Cause.{Cause}

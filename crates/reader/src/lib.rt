@@ -6,34 +6,21 @@ ghost use Rattle.reader.specs.Breaches.{Breach, Complete, Reads, Sooner};
 ghost use lib.ListN.{length};
 ghost use mathlib.Core.Path.{_≡_};
 use kripke::node::Node;
-use kripke::refusal::Cause;
 use kripke::refusal::Refusal;
 
 mod head;
+mod passes;
 mod reader;
 mod token;
 
-// The most bytes of a text, the most questions of a kind, and the most nodes of a table.
-const TEXT_BYTES: usize = 4096;
-
-const QUESTIONS: usize = 32;
-
-const NODES: usize = 2045;
-
 // Reads the text as a formula on the given number of questions: writes its nodes from the first place on, and gives their number.
-// The text is read twice, with no places first: so a refusal changes nothing.
+// The text is read twice, and the first time nothing is written: so a refusal changes nothing.
 pub fn read_formula(text: &[u8], questions: usize, places: &mut [Node]) -> Result<usize, Refusal>
     ensures judged { λ r. ⌜ JudgedBy Sooner (Breach (now (text .entry)) questions (length (now (places .entry)))) Text (Reads (now (text .entry)) questions (now (places .entry)) (now (places .exit))) (now (places .exit) ≡ now (places .entry)) r ⌝ }
     ensures complete { λ r. ⌜ Complete (now (text .entry)) questions (length (now (places .entry))) r ⌝ }
 {
-    if text.len() > TEXT_BYTES || questions < 1 || questions > QUESTIONS {
-        return Err(reader::refusal(Cause::TextLimits, 0));
-    }
-    let count = reader::read_whole(text, questions, &mut [])?;
-    if count > places.len() || count > NODES {
-        return Err(reader::refusal(Cause::ManyNodes, count));
-    }
-    reader::read_whole(text, questions, places)
+    passes::check_text(text, questions, places.len())?;
+    passes::write_nodes(text, questions, places)
 }
 
 #[cfg(test)]

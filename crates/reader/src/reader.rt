@@ -2,6 +2,7 @@ ghost use Prim.Native.Nat.{ℕ, _+_, _≤_, _<_};
 ghost use Rattle.kripke.specs.declared.refusal.Layer.the-variants.{Text};
 ghost use Rattle.reader.specs.Phrases.{Begins, Form, Linked, Middle, Opened, Owes, Signed, closing, joinedCode};
 ghost use Rattle.reader.specs.Reading.{Grown, Laying, Moved, Next, Parsed, Standing, Trimmed, view};
+ghost use Rattle.reader.specs.Tokens.{Decided};
 ghost use Rattle.reader.specs.declared.head.Opening.the-variants.{Pair};
 ghost use Rattle.std.specs.Results.{Cases};
 ghost use lib.ListN.{length, set};
@@ -32,6 +33,7 @@ pub struct Reader<'a> {
     used: usize,
 }
 
+// A refusal by the reader.
 pub fn refusal(cause: Cause, place: usize) -> Refusal
     ensures { λ r. ⌜ (r .cause ≡ cause) × (r .layer ≡ Text) × (r .place ≡ place) ⌝ }
 {
@@ -40,6 +42,13 @@ pub fn refusal(cause: Cause, place: usize) -> Refusal
         layer: Layer::Text,
         place,
     }
+}
+
+// Whether no level is left.
+fn spent(levels: u8) -> bool
+    ensures { λ r. ⌜ Decided (levels ≡ 0) r ⌝ }
+{
+    levels == 0
 }
 
 impl<'a> Reader<'a> {
@@ -155,7 +164,7 @@ impl<'a> Reader<'a> {
         if !asked(head, questions) {
             return Err(refusal(Cause::QuestionNumber, place));
         }
-        if levels == 0 {
+        if spent(levels) {
             return Err(refusal(Cause::TooDeep, place));
         }
         Ok(head)
@@ -180,8 +189,7 @@ impl<'a> Reader<'a> {
 
     // A formula of at most `levels` levels: its nodes are made in order, and the number of its own, the last, is given.
     fn formula(&mut self, questions: usize, levels: u8, places: &mut [Node]) -> Result<u16, Refusal>
-        requires standing { ⌜ Standing (now self) ⌝ }
-        requires few { ⌜ levels ≤ 64 ⌝ }
+        requires { ⌜ Standing (now self) ⌝ }
         ensures grown { λ _. ⌜ Grown (now (self .entry)) (now (self .exit)) ⌝ }
         ensures owes { λ r. ⌜ ((l : ℕ) → l + levels ≡ 65 → Owes (Form l) (λ f own. Laying (now (self .entry) .used) (now (places .entry)) f own (now (self .exit) .used) (now (places .exit))) questions (view (now (self .entry))) (view (now (self .exit))) r) ⌝ }
     {

@@ -48,6 +48,7 @@ pub enum Token {
     End,
 }
 
+// Whether the token is the given sign.
 pub fn is_sign(token: Token, sign: Sign) -> bool
     ensures { λ r. ⌜ Decided (token ≡ Token.Sign sign) r ⌝ }
 {

@@ -1,5 +1,5 @@
 use borrow.Author.Needs.{needs}
-use mathlib.Core.Path.{_≡_, sym, _∙_, ap}
+use mathlib.Core.Path.{_≡_}
 use native.Mathlib.Omega.{arith}
 use lib.ListN.{getD}
 use Rattle.std.proofs.shelf.Tests.{ltb-false, ltb-true, leb-false, leb-true}
@@ -19,7 +19,7 @@ returns-in-None c =
 pub returns-in-Some-split-operator : need.returns-in-Some-split-operator
 returns-in-Some-split-operator c =
     operator-split (c .args .text .now) (c .in-Some-split-operator .operator) (c .in-Some-split-operator .rest .now) (omega (arith, ltb-false, leb-true, ltb-true, leb-false)) (λ e. omega arith)
-      (c .in-Some-split-operator .ensures tt)
+    (c .in-Some-split-operator .ensures tt)
 
 pub returns-in-None-split-operator : need.returns-in-None-split-operator
 returns-in-None-split-operator c =

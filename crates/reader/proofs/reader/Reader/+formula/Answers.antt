@@ -1,11 +1,9 @@
-use mathlib.Core.Path.{_≡_, refl, sym, ap, _∙_, subst}
-use mathlib.Core.List.{List}
-use Prim.Native.Nat.{ℕ, suc, _+_, _-_, _≤_, _<_}
+use mathlib.Core.Path.{refl, ap, _∙_, subst}
+use Prim.Native.Nat.{ℕ, suc, _+_, _-_}
 use native.Mathlib.Omega.{arith}
 use lib.ListN.{length, set}
 use Rattle.kripke.specs.Ctl.{truth, question}
 use Rattle.reader.specs.declared.head.Head.{Head}
-use Rattle.reader.specs.declared.head.Head.the-variants as head
 use Rattle.reader.specs.Tokens.{Stream}
 use Rattle.reader.specs.Phrases.{Form, Begun, applied, joined}
 use Rattle.reader.specs.Reading.{view, Laying}

@@ -1,5 +1,4 @@
-use mathlib.Core.Path.{_≡_, sym, subst}
-use Prim.Native.Nat.{ℕ}
+use mathlib.Core.Path.{sym, subst}
 use Rattle.reader.specs.declared.head.Opening.{Opening}
 use Rattle.reader.specs.Phrases.{Signed, closing, Owes}
 use Rattle.reader.specs.Reading.{view}

@@ -1,4 +1,4 @@
-use mathlib.Core.Path.{_≡_, sym, _∙_}
+use mathlib.Core.Path.{sym, _∙_}
 use Rattle.reader.proofs.Steps.{tells, sign-taken, sign-refused}
 use Rattle.reader.specs.Reading.{view}
 use Rattle.reader.proofs.reader.Reader.expect.Needs as need

@@ -1,9 +1,9 @@
-use mathlib.Core.Path.{_≡_, refl, sym, ap, _∙_, subst}
-use Prim.Native.Nat.{ℕ, _≤_}
+use mathlib.Core.Path.{_≡_, sym, ap, _∙_, subst}
+use Prim.Native.Nat.{ℕ}
 use native.Mathlib.Omega.{arith}
 use Rattle.reader.specs.Phrases.{Form, headOf, Refused}
 use Rattle.reader.specs.Reading.{view}
-use Rattle.reader.proofs.Steps.{tells, head-forth, begun, not-begun, unasked-begun, deep-begun}
+use Rattle.reader.proofs.Steps.{tells, head-forth, not-begun, unasked-begun, deep-begun}
 use Rattle.reader.proofs.reader.Reader.head.Needs as need
 
 pub returns-in-rest : need.returns-in-rest
@@ -26,15 +26,15 @@ returns-then-not-asked c =
       begins = λ l e. unasked-begun (c .args .questions) l (view (c .args .self .now)) _ (over .0) (z .is ∙ sym forth ∙ over .1) (over .2) (tells _ _ _ _ _ (z .here) (c .refusal-then-not-asked .ensures));
     }
 
-pub returns-then-levels-eq0 : need.returns-then-levels-eq0
-returns-then-levels-eq0 c =
+pub returns-then-spent : need.returns-then-spent
+returns-then-spent c =
     let z = c .token-token .ensures .next in
     let forth = head-forth (c .token-token .result .0) (c .in-Some .head) (sym (c .head-of .ensures) ∙ c .in-Some .is) in
     record {
       moved = record { standing = c .token-token .ensures .standing; forward = z .forward; used = z .used };
       onward = tt;
       begins = λ l e.
-          let is : 65 ≡ l = omega arith in
-          subst (λ (i : ℕ). Refused (Form i) (c .args .questions) (view (c .args .self .now)) (c .refusal-then-levels-eq0 .result)) is
-          (deep-begun (c .args .questions) (view (c .args .self .now)) (c .refusal-then-levels-eq0 .result) (c .in-Some .head) (z .is ∙ sym forth) (c .if-not-asked .ensures tt) (tells _ _ _ _ _ (z .here) (c .refusal-then-levels-eq0 .ensures)));
+          let is : 65 ≡ l = omega (arith, c .if-spent .ensures tt) in
+          subst (λ (i : ℕ). Refused (Form i) (c .args .questions) (view (c .args .self .now)) (c .refusal-then-spent .result)) is
+          (deep-begun (c .args .questions) (view (c .args .self .now)) (c .refusal-then-spent .result) (c .in-Some .head) (z .is ∙ sym forth) (c .if-not-asked .ensures tt) (tells _ _ _ _ _ (z .here) (c .refusal-then-spent .ensures)));
     }

@@ -1,4 +1,4 @@
-use mathlib.Core.Path.{_≡_, sym, _∙_, refl}
+use mathlib.Core.Path.{sym, _∙_, refl}
 use Rattle.reader.proofs.Steps.{tells, link-taken, link-refused}
 use Rattle.reader.specs.Phrases.{conj, disj}
 use Rattle.reader.specs.Reading.{view}

@@ -1,9 +1,6 @@
 use mathlib.Core.Path.{_≡_, refl, sym, ap, _∙_, subst}
 use Prim.Native.Nat.{ℕ}
-use Rattle.std.specs.declared.result.Result.{Result}
 use Rattle.std.specs.declared.result.Result.the-variants.{Ok}
-use Rattle.std.proofs.shelf.Results.{err-from-errBy}
-use Rattle.kripke.specs.declared.refusal.Refusal.{Refusal}
 use Rattle.reader.specs.declared.head.Opening.{Opening}
 use Rattle.reader.specs.declared.head.Opening.the-variants.{Until}
 use Rattle.reader.specs.Phrases.{Middle, joinedCode, Owes}

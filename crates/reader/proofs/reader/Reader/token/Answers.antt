@@ -1,10 +1,10 @@
-use mathlib.Core.Path.{_≡_, refl, sym, ap, _∙_, subst}
+use mathlib.Core.Path.{_≡_, sym, ap, _∙_, subst}
 use mathlib.Core.List.{List}
-use Prim.Native.Nat.{ℕ, _+_, _≤_}
+use Prim.Native.Nat.{ℕ}
 use native.Mathlib.Omega.{arith}
-use lib.ListN.{length, take, drop}
-use Rattle.reader.specs.Tokens.{Stream, offset, first, rest}
-use Rattle.reader.specs.Reading.{ahead, view, Trimmed}
+use lib.ListN.{length}
+use Rattle.reader.specs.Tokens.{first, rest}
+use Rattle.reader.specs.Reading.{ahead, Trimmed}
 use Rattle.reader.proofs.Ahead.{left-fits, stepped, here-over, cut-over}
 use Rattle.reader.proofs.reader.Reader.token.Needs as need
 

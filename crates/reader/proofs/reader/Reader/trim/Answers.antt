@@ -1,4 +1,4 @@
-use mathlib.Core.Path.{_≡_, _∙_}
+use mathlib.Core.Path.{_∙_}
 use native.Mathlib.Omega.{arith}
 use Rattle.reader.proofs.Ahead.{space-on}
 use Rattle.reader.proofs.reader.Reader.trim.Needs as need
