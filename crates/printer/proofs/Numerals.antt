@@ -50,13 +50,13 @@ two-decimals j l h = decimal-step j l (omega arith) ∙ ap (λ ds. ds ++ ((48 + 
 pub question-begins : (j : ℕ) → j < 100 → (o : ℕ) (r : List ℕ) → Clear r → Begins o (113 ∷ (decimal j ++ r)) (Question j) r
 question-begins j h o r g = ⊎-elim
     (λ l.
-      let e : 48 + j - 48 ≡ j = omega arith in
-      subst (λ (ds : List ℕ). Begins o (113 ∷ (ds ++ r)) (Question j) r) (sym (decimal-digit j l))
-        (subst (λ (n : ℕ). Begins o (113 ∷ (48 + j) ∷ r) (Question n) r) e (one-begins (48 + j) r o (a-digit (48 + j) (omega arith) (omega arith)) g)))
+    let e : 48 + j - 48 ≡ j = omega arith in
+    subst (λ (ds : List ℕ). Begins o (113 ∷ (ds ++ r)) (Question j) r) (sym (decimal-digit j l))
+    (subst (λ (n : ℕ). Begins o (113 ∷ (48 + j) ∷ r) (Question n) r) e (one-begins (48 + j) r o (a-digit (48 + j) (omega arith) (omega arith)) g)))
     (λ l.
-      let e : (48 + j / 10 - 48) * 10 + (48 + j % 10 - 48) ≡ j = omega arith in
-      subst (λ (ds : List ℕ). Begins o (113 ∷ (ds ++ r)) (Question j) r) (sym (two-decimals j l h))
-        (subst (λ (n : ℕ). Begins o (113 ∷ (48 + j / 10) ∷ (48 + j % 10) ∷ r) (Question n) r) e
-          (two-begins (48 + j / 10) (48 + j % 10) r o (a-digit (48 + j / 10) (omega arith) (omega arith)) (le-leb 49 (48 + j / 10) (omega arith))
-            (a-digit (48 + j % 10) (omega arith) (omega arith)))))
+    let e : (48 + j / 10 - 48) * 10 + (48 + j % 10 - 48) ≡ j = omega arith in
+    subst (λ (ds : List ℕ). Begins o (113 ∷ (ds ++ r)) (Question j) r) (sym (two-decimals j l h))
+    (subst (λ (n : ℕ). Begins o (113 ∷ (48 + j / 10) ∷ (48 + j % 10) ∷ r) (Question n) r) e
+    (two-begins (48 + j / 10) (48 + j % 10) r o (a-digit (48 + j / 10) (omega arith) (omega arith)) (le-leb 49 (48 + j / 10) (omega arith))
+    (a-digit (48 + j % 10) (omega arith) (omega arith)))))
     (cases-lt j 10)

@@ -18,24 +18,52 @@ at-code n code s e h = subst (λ (m : ℕ). Written (getD operators m constant) 
 
 pub two-and : Two and (40 ∷ []) (38 ∷ []) (41 ∷ [])
 two-and = record {
-    opening = token.Sign Open; free = λ q. tt; left = []; middle = And; right = Close;
-    begins = refl; links = refl; ends = refl; is = λ l f g. refl
-  }
+  opening = token.Sign Open;
+  free = λ q. tt;
+  left = [];
+  middle = And;
+  right = Close;
+  begins = refl;
+  links = refl;
+  ends = refl;
+  is = λ l f g. refl;
+}
 
 pub two-or : Two or (40 ∷ []) (124 ∷ []) (41 ∷ [])
 two-or = record {
-    opening = token.Sign Open; free = λ q. tt; left = []; middle = Or; right = Close;
-    begins = refl; links = refl; ends = refl; is = λ l f g. refl
-  }
+  opening = token.Sign Open;
+  free = λ q. tt;
+  left = [];
+  middle = Or;
+  right = Close;
+  begins = refl;
+  links = refl;
+  ends = refl;
+  is = λ l f g. refl;
+}
 
 pub two-eu : Two EU (69 ∷ 91 ∷ []) (32 ∷ 85 ∷ 32 ∷ []) (93 ∷ [])
 two-eu = record {
-    opening = token.Alone Exists; free = λ q. tt; left = Left ∷ []; middle = Until; right = Right;
-    begins = refl; links = refl; ends = refl; is = λ l f g. refl
-  }
+  opening = token.Alone Exists;
+  free = λ q. tt;
+  left = Left ∷ [];
+  middle = Until;
+  right = Right;
+  begins = refl;
+  links = refl;
+  ends = refl;
+  is = λ l f g. refl;
+}
 
 pub two-au : Two AU (65 ∷ 91 ∷ []) (32 ∷ 85 ∷ 32 ∷ []) (93 ∷ [])
 two-au = record {
-    opening = token.Alone Forall; free = λ q. tt; left = Left ∷ []; middle = Until; right = Right;
-    begins = refl; links = refl; ends = refl; is = λ l f g. refl
-  }
+  opening = token.Alone Forall;
+  free = λ q. tt;
+  left = Left ∷ [];
+  middle = Until;
+  right = Right;
+  begins = refl;
+  links = refl;
+  ends = refl;
+  is = λ l f g. refl;
+}

@@ -53,20 +53,21 @@ pub record TwoAt (ns : List Node) (i l : ℕ) (before between after : List ℕ) 
 
 two-of : (op : Operator) (fs : List Formula) (a b l : ℕ) → l ≤ 64 → (x y z : _) → Written op (Around x y z)
     → (first : List Mark) × (middle : List Mark) × (last : List Mark) × ((q : ℕ) → All q first × All q middle × All q last)
-      × (now x ≡ spelt (toks first)) × (now y ≡ spelt (toks middle)) × (now z ≡ spelt (toks last))
-      × (marks l (applied op fs a b) ≡ first ++ (marks (suc l) (getD fs a truth) ++ (middle ++ (marks (suc l) (getD fs b truth) ++ last))))
+    × (now x ≡ spelt (toks first)) × (now y ≡ spelt (toks middle)) × (now z ≡ spelt (toks last))
+    × (marks l (applied op fs a b) ≡ first ++ (marks (suc l) (getD fs a truth) ++ (middle ++ (marks (suc l) (getD fs b truth) ++ last))))
 two-of constant fs a b l le x y z h = absurd h
 two-of asking fs a b l le x y z h = absurd h
 two-of (unary op) fs a b l le x y z h = absurd h
-two-of (binary op) fs a b l le x y z h =
-    ( mark (h .opening) l ∷ signs (h .left)
-    , sign (h .middle) ∷ []
-    , sign (h .right) ∷ []
-    , λ q. (((le, h .free q), signs-good q (h .left)), signs-good q (h .middle ∷ []), signs-good q (h .right ∷ []))
-    , h .begins
-    , h .links ∙ sym (append-nil (spell (token.Sign (h .middle))))
-    , h .ends ∙ sym (append-nil (spell (token.Sign (h .right))))
-    , h .is l (getD fs a truth) (getD fs b truth) )
+two-of (binary op) fs a b l le x y z h = (
+  mark (h .opening) l ∷ signs (h .left),
+  sign (h .middle) ∷ [],
+  sign (h .right) ∷ [],
+  λ q. (((le, h .free q), signs-good q (h .left)), signs-good q (h .middle ∷ []), signs-good q (h .right ∷ [])),
+  h .begins,
+  h .links ∙ sym (append-nil (spell (token.Sign (h .middle)))),
+  h .ends ∙ sym (append-nil (spell (token.Sign (h .right)))),
+  h .is l (getD fs a truth) (getD fs b truth),
+)
 
 truth-of : (op : Operator) (fs : List Formula) (a b : ℕ) → Written op Truth → applied op fs a b ≡ truth
 truth-of constant fs a b h = refl
@@ -106,18 +107,24 @@ module _ (q : ℕ) (ns : List Node) (w : WellFormed q ns) (i : ℕ) (li : i < le
   two-at x y z h =
       let p = two-of (operator n) (formulas ns) (n .a) (n .b) l le x y z h in
       record {
-        first = p .0; middle = p .1; last = p .2; good = p .3; begins = p .4; links = p .5; ends = p .6;
-        is = ap (marks l) (formula-at q ns w i li) ∙ p .7
+        first = p .0;
+        middle = p .1;
+        last = p .2;
+        good = p .3;
+        begins = p .4;
+        links = p .5;
+        ends = p .6;
+        is = ap (marks l) (formula-at q ns w i li) ∙ p .7;
       }
 
   pub truth-spells : Written (operator n) Truth → (b b1 : List ℕ) (r : Result (Unit {0}) Stop) → Appends b (spell token.Truth) b1 r → Spells q b (marks l (formula ns i)) b1 r
   truth-spells h b b1 r z =
       subst (λ (f : Formula). Spells q b (marks l f) b1 r) (sym (formula-at q ns w i li ∙ truth-of (operator n) (formulas ns) (n .a) (n .b) h))
-        (appended q b (mark token.Truth l ∷ []) (spell token.Truth) b1 r ((le, tt), tt) refl z)
+      (appended q b (mark token.Truth l ∷ []) (spell token.Truth) b1 r ((le, tt), tt) refl z)
 
   pub question-spells : Written (operator n) Question → (b b1 : List ℕ) (r : Result (Unit {0}) Stop) → Appends b (spell (token.Question (n .a))) b1 r
       → Spells q b (marks l (formula ns i)) b1 r
   question-spells h b b1 r z =
       let p = question-of (operator n) (formulas ns) q i (n .a) (n .b) h (w i li .1) in
       subst (λ (f : Formula). Spells q b (marks l f) b1 r) (sym (formula-at q ns w i li ∙ p .0))
-        (appended q b (mark (token.Question (n .a)) l ∷ []) (spell (token.Question (n .a))) b1 r ((le, p .1), tt) (sym (append-nil (spell (token.Question (n .a))))) z)
+      (appended q b (mark (token.Question (n .a)) l ∷ []) (spell (token.Question (n .a))) b1 r ((le, p .1), tt) (sym (append-nil (spell (token.Question (n .a))))) z)

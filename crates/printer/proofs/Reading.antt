@@ -33,11 +33,15 @@ printed q ns before text some few rooted ordered e h =
     let is : text ≡ shown (root ns) = h .is ∙ ap (λ l. l ++ shown (root ns)) e in
     record {
       printable = record {
-        some = some; few = few; rooted = rooted; ordered = ordered; within = h .fits .0;
-        short = omega (arith, h .fits .1, ap length e)
+        some = some;
+        few = few;
+        rooted = rooted;
+        ordered = ordered;
+        within = h .fits .0;
+        short = omega (arith, h .fits .1, ap length e);
       };
       is = is;
-      sentence = subst (λ (t : List ℕ). Sentence t (root ns)) (sym is) (sentence q (root ns) (omega arith) (h .fits .0))
+      sentence = subst (λ (t : List ℕ). Sentence t (root ns)) (sym is) (sentence q (root ns) (omega arith) (h .fits .0));
     }
 
 pub unprintable : (q : ℕ) (ns : List Node) (before : List ℕ) → before ≡ [] → (Fits q before (marks 1 (root ns)) → ⊥) → Printable q ns → ⊥

@@ -51,9 +51,10 @@ pub then : (q : ℕ) (b b1 b2 : List ℕ) (ms ns : List Mark) (r : Result (Unit 
 then q b b1 b2 ms ns (Ok x) h g =
     record {
       is = g .is ∙ ap (λ l. l ++ spelt (toks ns)) (h .is) ∙ append-assoc b (spelt (toks ms)) (spelt (toks ns)) ∙ ap (λ l. b ++ l) (sym (spelt-append ms ns));
-      fits =
-        ( all-append q ms ns (h .fits .0) (g .fits .0)
-        , omega (arith, ap length (h .is), length-append b (spelt (toks ms)), length-spelt ms ns, g .fits .1) )
+      fits = (
+        all-append q ms ns (h .fits .0) (g .fits .0),
+        omega (arith, ap length (h .is), length-append b (spelt (toks ms)), length-spelt ms ns, g .fits .1),
+      );
     }
 then q b b1 b2 ms ns (Err Limit) h g = λ fits.
     g (all-right q ms ns (fits .0), omega (arith, ap length (h .is), length-append b (spelt (toks ms)), length-spelt ms ns, fits .1))

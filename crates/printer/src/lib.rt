@@ -16,6 +16,7 @@ mod writer;
 
 // The most questions of a kind, and the most levels of a formula.
 const QUESTIONS: usize = 32;
+
 const LEVELS: u8 = 64;
 
 // Whether every node is in order.

@@ -54,7 +54,13 @@ fn put_question(heap: Global, out: &mut String, question: u16) -> Result<(), Sto
 }
 
 // Appends the formula of node i, which may have so many levels.
-pub fn write(heap: Global, nodes: &[Node], i: usize, levels: u8, out: &mut String) -> Result<(), Stop>
+pub fn write(
+    heap: Global,
+    nodes: &[Node],
+    i: usize,
+    levels: u8,
+    out: &mut String,
+) -> Result<(), Stop>
     requires ordered { ⌜ ((q : ℕ) × WellFormed q (now nodes)) ⌝ }
     requires node { ⌜ i < length (now nodes) ⌝ }
     requires deep { ⌜ levels ≤ 64 ⌝ }

@@ -19,7 +19,7 @@ returns-in-Truth t c q l w e =
 pub returns-in-Question : need.returns-in-Question
 returns-in-Question t c q l w e =
     question-spells q (c .args .nodes .now) w (c .args .i) (c .pre .node) l (omega arith) (c .in-Question .ensures tt)
-      (string-bytes (c .args .out .now)) (string-bytes (c .put-question .last .out)) (c .put-question .result) (c .put-question .ensures)
+    (string-bytes (c .args .out .now)) (string-bytes (c .put-question .last .out)) (c .put-question .result) (c .put-question .ensures)
 
 -- A sign, and the argument.
 pub returns-in-Break-put : need.returns-in-Break-put
@@ -27,7 +27,7 @@ returns-in-Break-put t c q l w e =
     let p = err-from-errBy (c .from-residual .result) (c .from-residual .ensures .1) in
     let z = one-at q (c .args .nodes .now) w (c .args .i) (c .pre .node) l (omega arith) (c .in-Before .sign) (c .in-Before .ensures tt) in
     exit q _ _ _ (c .from-residual .result) (p .0) (c .in-Break-put .field-0 .0) (p .1) (p .2)
-      (one-stops q (c .args .nodes .now) (c .args .i) l _ z (string-bytes (c .args .out .now)) (string-bytes (c .put-in-Before .last .out)) (c .in-Break-put .field-0 .0) (c .in-Break-put .ensures tt))
+    (one-stops q (c .args .nodes .now) (c .args .i) l _ z (string-bytes (c .args .out .now)) (string-bytes (c .put-in-Before .last .out)) (c .in-Break-put .field-0 .0) (c .in-Break-put .ensures tt))
 
 pub write-requires : need.write-requires
 write-requires t c κs =
@@ -39,7 +39,7 @@ pub returns-in-Continue-put : need.returns-in-Continue-put
 returns-in-Continue-put t c q l w e =
     let z = one-at q (c .args .nodes .now) w (c .args .i) (c .pre .node) l (omega arith) (c .in-Before .sign) (c .in-Before .ensures tt) in
     one-ends q (c .args .nodes .now) (c .args .i) l _ z (string-bytes (c .args .out .now)) (string-bytes (c .put-in-Before .last .out)) tt (string-bytes (c .write .last .out)) (c .write .result)
-      (c .in-Continue-put .ensures tt) (c .write .ensures q (suc l) w (omega arith))
+    (c .in-Continue-put .ensures tt) (c .write .ensures q (suc l) w (omega arith))
 
 -- Three signs, and the two arguments.
 pub returns-in-Break-put-2 : need.returns-in-Break-put-2
@@ -47,7 +47,7 @@ returns-in-Break-put-2 t c q l w e =
     let p = err-from-errBy (c .from-residual-in-Break-put-2 .result) (c .from-residual-in-Break-put-2 .ensures .1) in
     let z = two-at q (c .args .nodes .now) w (c .args .i) (c .pre .node) l (omega arith) (c .in-Around .before) (c .in-Around .between) (c .in-Around .after) (c .in-Around .ensures tt) in
     exit q _ _ _ (c .from-residual-in-Break-put-2 .result) (p .0) (c .in-Break-put-2 .field-0 .0) (p .1) (p .2)
-      (two-stops-1 q (c .args .nodes .now) (c .args .i) l _ _ _ z (string-bytes (c .args .out .now)) (string-bytes (c .put-in-Around .last .out)) (c .in-Break-put-2 .field-0 .0) (c .in-Break-put-2 .ensures tt))
+    (two-stops-1 q (c .args .nodes .now) (c .args .i) l _ _ _ z (string-bytes (c .args .out .now)) (string-bytes (c .put-in-Around .last .out)) (c .in-Break-put-2 .field-0 .0) (c .in-Break-put-2 .ensures tt))
 
 pub write-requires-in-Around : need.write-requires-in-Around
 write-requires-in-Around t c κs =
@@ -60,7 +60,7 @@ returns-in-Break-write t c q l w e =
     let p = err-from-errBy (c .from-residual-in-Break-write .result) (c .from-residual-in-Break-write .ensures .1) in
     let z = two-at q (c .args .nodes .now) w (c .args .i) (c .pre .node) l (omega arith) (c .in-Around .before) (c .in-Around .between) (c .in-Around .after) (c .in-Around .ensures tt) in
     exit q _ _ _ (c .from-residual-in-Break-write .result) (p .0) (c .in-Break-write .field-0 .0) (p .1) (p .2)
-      (two-stops-2 q (c .args .nodes .now) (c .args .i) l _ _ _ z (string-bytes (c .args .out .now)) (string-bytes (c .put-in-Around .last .out)) tt (c .in-Continue-put-2 .ensures tt) (string-bytes (c .write-in-Around .last .out)) (c .in-Break-write .field-0 .0) (c .in-Break-write .ensures tt q (suc l) w (omega arith)))
+    (two-stops-2 q (c .args .nodes .now) (c .args .i) l _ _ _ z (string-bytes (c .args .out .now)) (string-bytes (c .put-in-Around .last .out)) tt (c .in-Continue-put-2 .ensures tt) (string-bytes (c .write-in-Around .last .out)) (c .in-Break-write .field-0 .0) (c .in-Break-write .ensures tt q (suc l) w (omega arith)))
 
 pub put-requires-in-Around-2 : need.put-requires-in-Around-2
 put-requires-in-Around-2 t c κs =
@@ -72,7 +72,7 @@ returns-in-Break-put-3 t c q l w e =
     let p = err-from-errBy (c .from-residual-in-Break-put-3 .result) (c .from-residual-in-Break-put-3 .ensures .1) in
     let z = two-at q (c .args .nodes .now) w (c .args .i) (c .pre .node) l (omega arith) (c .in-Around .before) (c .in-Around .between) (c .in-Around .after) (c .in-Around .ensures tt) in
     exit q _ _ _ (c .from-residual-in-Break-put-3 .result) (p .0) (c .in-Break-put-3 .field-0 .0) (p .1) (p .2)
-      (two-stops-3 q (c .args .nodes .now) (c .args .i) l _ _ _ z (string-bytes (c .args .out .now)) (string-bytes (c .put-in-Around .last .out)) tt (c .in-Continue-put-2 .ensures tt) (string-bytes (c .write-in-Around .last .out)) (c .in-Continue-write .ensures tt q (suc l) w (omega arith)) (string-bytes (c .put-in-Around-2 .last .out)) (c .in-Break-put-3 .field-0 .0) (c .in-Break-put-3 .ensures tt))
+    (two-stops-3 q (c .args .nodes .now) (c .args .i) l _ _ _ z (string-bytes (c .args .out .now)) (string-bytes (c .put-in-Around .last .out)) tt (c .in-Continue-put-2 .ensures tt) (string-bytes (c .write-in-Around .last .out)) (c .in-Continue-write .ensures tt q (suc l) w (omega arith)) (string-bytes (c .put-in-Around-2 .last .out)) (c .in-Break-put-3 .field-0 .0) (c .in-Break-put-3 .ensures tt))
 
 pub write-requires-in-Around-2 : need.write-requires-in-Around-2
 write-requires-in-Around-2 t c κs =
@@ -85,7 +85,7 @@ returns-in-Break-write-2 t c q l w e =
     let p = err-from-errBy (c .from-residual-in-Break-write-2 .result) (c .from-residual-in-Break-write-2 .ensures .1) in
     let z = two-at q (c .args .nodes .now) w (c .args .i) (c .pre .node) l (omega arith) (c .in-Around .before) (c .in-Around .between) (c .in-Around .after) (c .in-Around .ensures tt) in
     exit q _ _ _ (c .from-residual-in-Break-write-2 .result) (p .0) (c .in-Break-write-2 .field-0 .0) (p .1) (p .2)
-      (two-stops-4 q (c .args .nodes .now) (c .args .i) l _ _ _ z (string-bytes (c .args .out .now)) (string-bytes (c .put-in-Around .last .out)) tt (c .in-Continue-put-2 .ensures tt) (string-bytes (c .write-in-Around .last .out)) (c .in-Continue-write .ensures tt q (suc l) w (omega arith)) (string-bytes (c .put-in-Around-2 .last .out)) tt (c .in-Continue-put-3 .ensures tt) (string-bytes (c .write-in-Around-2 .last .out)) (c .in-Break-write-2 .field-0 .0) (c .in-Break-write-2 .ensures tt q (suc l) w (omega arith)))
+    (two-stops-4 q (c .args .nodes .now) (c .args .i) l _ _ _ z (string-bytes (c .args .out .now)) (string-bytes (c .put-in-Around .last .out)) tt (c .in-Continue-put-2 .ensures tt) (string-bytes (c .write-in-Around .last .out)) (c .in-Continue-write .ensures tt q (suc l) w (omega arith)) (string-bytes (c .put-in-Around-2 .last .out)) tt (c .in-Continue-put-3 .ensures tt) (string-bytes (c .write-in-Around-2 .last .out)) (c .in-Break-write-2 .field-0 .0) (c .in-Break-write-2 .ensures tt q (suc l) w (omega arith)))
 
 pub put-requires-in-Around-3 : need.put-requires-in-Around-3
 put-requires-in-Around-3 t c κs =
