@@ -54,7 +54,7 @@ module _ (o c d : Comparison) (going : Going o c) where
   pub falls : (n : ℕ) → Rounded c d n → total (first o) (second o) - rounds d < total (first o) (second o) - rounds c
   falls n r =
       let sizes : total (first c) (second c) ≡ total (first o) (second o) =
-            of-equal (λ x y. total (first c) (second c) ≡ total x y) (going .same .first-is) (going .same .second-is) refl in
+      of-equal (λ x y. total (first c) (second c) ≡ total x y) (going .same .first-is) (going .same .second-is) refl in
       omega (arith, r .one-more, r .soon, sizes)
 
   closed-by : {a b : Kripke} {k : ℕ} {z : Cause} {p : ℕ} → RoundBreach a b k z p → ClosedAfter a b k

@@ -60,7 +60,11 @@ fn tell(heap: Global, comparison: &Comparison) -> Result<Vec<u8>, Error>
     match verdict.outcome {
         Outcome::Alike => alike_text(heap, rounds),
         Outcome::Different => {
-            let mut places = [Node { code: 0, a: 0, b: 0 }; 2045];
+            let mut places = [Node {
+                code: 0,
+                a: 0,
+                b: 0,
+            }; 2045];
             let count = comparison.formula(&mut places)?;
             different_text(heap, rounds, &places[0..count])
         }

@@ -22,9 +22,9 @@ length-puts {at} {xs} {a} p = ap (λ z. length z) (p .holds) ∙ length-put at x
 
 pub then : (at : ℕ) (xs ys : List ℕ) {a b c : List ℕ} {m n : ℕ} → Puts at xs a m b → Puts m ys b n c → Puts at (xs ++ ys) a n c
 then at xs ys {a} {b} {c} {m} {n} p q = record {
-    ends = omega (arith, p .ends, q .ends, length-append xs ys);
-    holds = q .holds ∙ ap (λ z. put m ys z) (p .holds) ∙ ap (λ (i : ℕ). put i ys (put at xs a)) (p .ends) ∙ sym (put-append at xs ys a)
-  }
+  ends = omega (arith, p .ends, q .ends, length-append xs ys);
+  holds = q .holds ∙ ap (λ z. put m ys z) (p .holds) ∙ ap (λ (i : ℕ). put i ys (put at xs a)) (p .ends) ∙ sym (put-append at xs ys a);
+}
 
 pub puts-same : {at : ℕ} {xs ys a b : List ℕ} {m : ℕ} → xs ≡ ys → Puts at xs a m b → Puts at ys a m b
 puts-same {at} {xs} {ys} {a} {b} {m} e p = record { ends = p .ends ∙ ap (λ z. at + length z) e; holds = p .holds ∙ ap (λ z. put at z a) e }
@@ -45,7 +45,7 @@ put-front ps (x ∷ xs) (y ∷ out) h =
     let e : suc (length ps) ≡ length qs = omega (arith, length-append ps (x ∷ [])) in
     let d : set (ps ++ (y ∷ out)) (length ps) x ≡ qs ++ out = set-at ps y out x (length ps) refl ∙ sym (append-assoc ps (x ∷ []) out) in
     ap (λ z. put (suc (length ps)) xs z) d ∙ ap (λ (i : ℕ). put i xs (qs ++ out)) e ∙ put-front qs xs out (omega arith)
-      ∙ append-assoc ps (x ∷ []) (xs ++ drop (length xs) out)
+    ∙ append-assoc ps (x ∷ []) (xs ++ drop (length xs) out)
 
 pub written : (text : List ℕ) {a b : List ℕ} {m : ℕ} → length text ≤ length a → Puts 0 text a m b → Written text a m b
 written text {a} {b} {m} h p =

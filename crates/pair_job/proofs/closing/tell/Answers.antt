@@ -24,7 +24,7 @@ returns-in-Alike c =
     let o = c .args .comparison .now in
     let decides = c .in-Continue-verdict .ensures tt .1 in
     told (questions o) (first o) (second o) (alikeText (rounds o)) _ (alike (rounds o) (decides .soon) (c .pre .closed) (decides .alike .0 (c .in-Alike .is)))
-      (ap alikeText (decides .rounds)) (c .alike-text .result) (c .alike-text .ensures)
+    (ap alikeText (decides .rounds)) (c .alike-text .result) (c .alike-text .ensures)
 
 -- The first n nodes, as a part from 0 on.
 front : (n : ℕ) (ns ms : List Node) → take n ns ≡ ms → take (n - 0) ns ≡ ms
@@ -43,4 +43,4 @@ returns-in-Continue-count c =
     let decides = c .in-Continue-verdict .ensures tt .1 in
     let w = c .in-Continue-count .ensures tt .1 in
     told (questions o) (first o) (second o) (differText (rounds o) (table o)) _ (different (rounds o) (table o) (decides .soon) (c .pre .closed) (w .separating))
-      (ap₂ differText (decides .rounds) (front (c .in-Continue-count .count) _ _ (w .front))) (c .different-text .result) (c .different-text .ensures)
+    (ap₂ differText (decides .rounds) (front (c .in-Continue-count .count) _ _ (w .front))) (c .different-text .result) (c .different-text .ensures)

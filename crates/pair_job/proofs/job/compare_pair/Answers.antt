@@ -12,7 +12,7 @@ returns-then-kind c =
     let cut = c .first-length-cut .result in
     let z : cut - 0 ≡ cut = omega arith in
     as-readings input _ _ (c .compare-as .result) (ap (λ (n : ℕ). take n input) z ∙ cut-first (whole input) cut input (c .first-length-cut .ensures))
-      (cut-second (whole input) cut input (c .first-length-cut .ensures)) (omega (arith, c .kind .ensures, c .kind-2 .ensures, c .if-kind .taken)) (c .compare-as .ensures)
+    (cut-second (whole input) cut input (c .first-length-cut .ensures)) (omega (arith, c .kind .ensures, c .kind-2 .ensures, c .if-kind .taken)) (c .compare-as .ensures)
 
 pub returns-else-kind : need.returns-else-kind
 returns-else-kind c =
@@ -20,4 +20,4 @@ returns-else-kind c =
     let cut = c .first-length-cut .result in
     let z : cut - 0 ≡ cut = omega arith in
     as-words input _ _ (c .compare-as-else-kind .result) (ap (λ (n : ℕ). take n input) z ∙ cut-first (whole input) cut input (c .first-length-cut .ensures))
-      (cut-second (whole input) cut input (c .first-length-cut .ensures)) (λ e. c .if-kind .left (c .kind .ensures ∙ e ∙ sym (c .kind-2 .ensures))) (c .compare-as-else-kind .ensures)
+    (cut-second (whole input) cut input (c .first-length-cut .ensures)) (λ e. c .if-kind .left (c .kind .ensures ∙ e ∙ sym (c .kind-2 .ensures))) (c .compare-as-else-kind .ensures)

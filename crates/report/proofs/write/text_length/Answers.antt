@@ -15,8 +15,14 @@ pub returns-else-count-gt-MOST-NODES : need.returns-else-count-gt-MOST-NODES
 returns-else-count-gt-MOST-NODES c =
     let ns = c .in-Different .nodes .now in
     let n = ap nodeCount (c .in-Different .is) in
-    let e = ap (λ v. length (reportText v)) (c .in-Different .is) in
-    ( omega (arith, n, c .if-count-gt-MOST-NODES .left)
-    , omega (arith, e, c .digits-in-Different .ensures .0, c .digits-in-Different-2 .ensures .0, c .lines-length .ensures .0,
-        length-different (c .in-Different .rounds) (length ns) (nodeLines 0 ns))
+    let e = ap (λ v. length (reportText v)) (c .in-Different .is) in (
+      omega (arith, n, c .if-count-gt-MOST-NODES .left),
+      omega (
+        arith,
+        e,
+        c .digits-in-Different .ensures .0,
+        c .digits-in-Different-2 .ensures .0,
+        c .lines-length .ensures .0,
+        length-different (c .in-Different .rounds) (length ns) (nodeLines 0 ns),
+      ),
     )

@@ -13,9 +13,9 @@ write-line-at-requires c κs =
     let ns = c .args .nodes .now in
     let i = c .loop-i .i in
     first-fits _ (nodeLine i (getD ns i _)) (nodeLines (suc i) (drop (i + 1) ns))
-      (rest-fits (nodeLines 0 (take i ns)) _
-        (subst⁻¹ (λ t. c .args .start + length t ≤ length (c .args .out .now)) (lines-split ns i _ (c .loop-i-test .taken)) (c .pre .fits))
-        (c .loop-i .inv))
+    (rest-fits (nodeLines 0 (take i ns)) _
+    (subst⁻¹ (λ t. c .args .start + length t ≤ length (c .args .out .now)) (lines-split ns i _ (c .loop-i-test .taken)) (c .pre .fits))
+    (c .loop-i .inv))
 
 pub loop-i-again : need.loop-i-again
 loop-i-again c = puts-same (sym (lines-more (c .args .nodes .now) (c .loop-i .i) _ (c .loop-i-test .taken))) (then _ _ _ (c .loop-i .inv) (c .write-line-at .ensures))
