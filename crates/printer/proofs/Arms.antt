@@ -1,11 +1,10 @@
 -- What is written of a node: its parts one after another, or a stop at one of them.
 use mathlib.Core.Path.{_≡_, sym, subst}
-use mathlib.Core.List.{List, [], _∷_, _++_}
-use Prim.Native.Nat.{ℕ, suc, _≤_, _<_}
+use mathlib.Core.List.{List, _++_}
+use Prim.Native.Nat.{ℕ, suc}
 use lib.ListN.{getD}
 use Rattle.std.specs.declared.result.Result.{Result}
 use Rattle.std.specs.declared.result.Result.the-variants.{Ok, Err}
-use Rattle.kripke.specs.Ctl.{Formula}
 use Rattle.kripke.specs.Nodes.{formula, blank}
 use Rattle.kripke.specs.declared.node.Node.{Node}
 use Rattle.reader.specs.Grammar.{Mark, marks}

@@ -1,15 +1,14 @@
 -- The signs of each operator.
 use mathlib.Core.Path.{_≡_, refl, sym, subst}
-use mathlib.Core.List.{List, [], _∷_}
+use mathlib.Core.List.{[], _∷_}
 use Prim.Native.Nat.{ℕ}
 use lib.ListN.{getD}
-use Rattle.kripke.specs.Ctl.{Formula, and, or, EU, AU}
+use Rattle.kripke.specs.Ctl.{and, or, EU, AU}
 use Rattle.kripke.specs.Nodes.{operators, constant}
 use Rattle.reader.specs.declared.token.Token.the-variants as token
 use Rattle.reader.specs.declared.token.Sign.the-variants.{And, Or, Open, Close, Left, Right, Until}
 use Rattle.reader.specs.declared.token.Quantifier.the-variants.{Exists, Forall}
 use Rattle.printer.specs.declared.signs.Signs.{Signs}
-use Rattle.printer.specs.Spelling.{spell, spelt}
 use Rattle.printer.specs.Writing.{Two, Written}
 
 -- The signs of the operator with the code n.

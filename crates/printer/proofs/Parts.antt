@@ -6,7 +6,6 @@ use native.Mathlib.Omega.{arith}
 use denote.Ref.{now}
 use lib.ListN.{length, getD}
 use Rattle.std.specs.declared.result.Result.{Result}
-use Rattle.std.specs.declared.result.Result.the-variants.{Ok, Err}
 use Rattle.kripke.specs.Ctl.{Formula, truth, question}
 use Rattle.kripke.specs.Nodes.{Operator, constant, asking, unary, binary, operator, applied, formulas, formula, Ordered, WellFormed, blank}
 use Rattle.kripke.specs.declared.node.Node.{Node}
@@ -17,8 +16,8 @@ use Rattle.reader.specs.Grammar.{Mark, mark, marks, toks, All}
 use Rattle.printer.specs.declared.signs.Signs.the-variants.{Truth, Question, Before, Around}
 use Rattle.printer.specs.declared.writer.Stop.{Stop}
 use Rattle.printer.specs.Spelling.{spell, spelt}
-use Rattle.printer.specs.Writing.{Appends, Spells, Spelt, signs, sign, Written}
-use Rattle.printer.proofs.Writings.{appended, then, stop}
+use Rattle.printer.specs.Writing.{Appends, Spells, signs, sign, Written}
+use Rattle.printer.proofs.Writings.{appended}
 
 signs-good : (q : ℕ) (ss : List Sign) → All q (signs ss)
 signs-good q [] = tt

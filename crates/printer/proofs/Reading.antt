@@ -1,29 +1,26 @@
 -- What is printed is read back.
 use mathlib.Core.Path.{_≡_, refl, sym, ap, _∙_, subst}
-use mathlib.Core.List.{List, [], _∷_, _++_}
+use mathlib.Core.List.{List, [], _++_}
 use mathlib.Core.Logic.{_⊎_}
 use Prim.Native.Nat.{ℕ, _≤_, _<_}
 use native.Mathlib.Omega.{arith}
 use lib.ListN.{length, take, drop}
 use Rattle.std.proofs.shelf.Lists.{take-at}
-use Rattle.std.specs.declared.result.Result.{Result}
 use Rattle.std.specs.declared.result.Result.the-variants.{Ok, Err}
 use Rattle.kripke.specs.Ctl.{Formula}
 use Rattle.kripke.specs.Nodes.{root, WellFormed}
-use Rattle.kripke.specs.Refusals.{numberOf, JudgedBy}
+use Rattle.kripke.specs.Refusals.{numberOf}
 use Rattle.kripke.specs.declared.node.Node.{Node}
-use Rattle.kripke.specs.declared.refusal.Refusal.{Refusal}
 use Rattle.kripke.specs.declared.refusal.Cause.{Cause}
 use Rattle.kripke.specs.declared.refusal.Cause.the-variants as cause
-use Rattle.kripke.specs.declared.refusal.Layer.the-variants as layer
-use Rattle.reader.specs.Grammar.{marks, Sentence, Within}
-use Rattle.reader.specs.Breaches.{Breach, long, unlimited, unexpected, unasked, deep, many, Reads, Sooner}
+use Rattle.reader.specs.Grammar.{marks, Sentence}
+use Rattle.reader.specs.Breaches.{Breach, long, unlimited, unexpected, unasked, deep, many}
 use Rattle.reader.specs.Table.{table}
 use Rattle.reader.proofs.Verdicts.{Limited, one-formula, spotless}
 use Rattle.printer.specs.Spelling.{shown}
 use Rattle.printer.specs.Writing.{Fits, Spelt}
 use Rattle.printer.specs.Printed.{Printable, TextOf}
-use Rattle.printer.specs.Theorems.{Back, ReadBack}
+use Rattle.printer.specs.Theorems.{ReadBack}
 use Rattle.printer.proofs.Sentences.{sentence}
 
 -- What has been written from the first byte on is the text of a printable table; what does not fit is of none.

@@ -1,15 +1,14 @@
 -- The text of a formula is a sentence of it.
-use mathlib.Core.Path.{_≡_, refl, sym, ap, _∙_}
+use mathlib.Core.Path.{sym, _∙_}
 use mathlib.Core.List.{List, [], _∷_, _++_}
-use Prim.Native.Nat.{ℕ, suc, _≤_, _<_}
+use Prim.Native.Nat.{ℕ, suc, _≤_}
 use native.Mathlib.Omega.{arith}
 use Rattle.kripke.specs.Ctl.{Formula, truth, question, not, and, or, EX, AX, EF, AF, EG, AG, EU, AU}
-use Rattle.reader.specs.declared.token.Token.{Token}
 use Rattle.reader.specs.declared.token.Token.the-variants.{Truth, Question, Unary, Alone, Sign, Other, End}
-use Rattle.reader.specs.Grammar.{Mark, mark, marks, toks, Asked, All, Within, Sentence}
+use Rattle.reader.specs.Grammar.{Mark, mark, marks, toks, All, Within, Sentence}
 use Rattle.reader.proofs.Phrases.{toks-append}
 use Rattle.printer.specs.Spelling.{shown}
-use Rattle.printer.proofs.Lexing.{Plain, EachPlain, lexing}
+use Rattle.printer.proofs.Lexing.{EachPlain, lexing}
 
 -- A formula is written with no other byte, and without the end.
 abbrev Proper : List Mark → Type 0

@@ -1,7 +1,7 @@
 -- What is spelt one after another.
-use mathlib.Core.Path.{_≡_, refl, sym, ap, _∙_, subst}
-use mathlib.Core.List.{List, [], _∷_, _++_, append-assoc, append-nil}
-use Prim.Native.Nat.{ℕ, suc, _+_, _≤_, _<_}
+use mathlib.Core.Path.{_≡_, refl, sym, ap, _∙_}
+use mathlib.Core.List.{List, [], _∷_, _++_, append-assoc}
+use Prim.Native.Nat.{ℕ, _+_, _≤_}
 use native.Mathlib.Omega.{arith}
 use lib.ListN.{length}
 use Rattle.std.proofs.shelf.Lists.{length-append}
@@ -14,7 +14,7 @@ use Rattle.reader.proofs.Phrases.{toks-append, all-append}
 use Rattle.printer.specs.declared.writer.Stop.{Stop}
 use Rattle.printer.specs.declared.writer.Stop.the-variants.{Limit, Memory}
 use Rattle.printer.specs.Spelling.{spell, spelt}
-use Rattle.printer.specs.Writing.{Appends, Fits, Spelt, Spells}
+use Rattle.printer.specs.Writing.{Appends, Spelt, Spells}
 
 spelt-tokens : (ts us : List Token) → spelt (ts ++ us) ≡ spelt ts ++ spelt us
 spelt-tokens [] us = refl
