@@ -14,9 +14,9 @@ use Rattle.kripke.specs.declared.node.Node.{Node}
 use Rattle.kripke.specs.declared.refusal.Cause.{Cause}
 use Rattle.kripke.specs.declared.refusal.Cause.the-variants as cause
 use Rattle.reader.specs.Grammar.{marks, Sentence}
-use Rattle.reader.specs.Breaches.{Breach, long, unlimited, unexpected, unasked, deep, many}
+use Rattle.reader.specs.Breaches.{Limited, Breach, long, unlimited, unexpected, unasked, deep, many}
 use Rattle.reader.specs.Table.{table}
-use Rattle.reader.proofs.Verdicts.{Limited, one-formula, spotless}
+use Rattle.reader.proofs.Verdicts.{one-formula, spotless}
 use Rattle.printer.specs.Spelling.{shown}
 use Rattle.printer.specs.Writing.{Fits, Spelt}
 use Rattle.printer.specs.Printed.{Printable, TextOf}
