@@ -5,8 +5,6 @@ use Rattle.kripke.specs.declared.node.Node.{Node}
 use Rattle.compare.specs.Answers.{Separating}
 use Rattle.compare.specs.Calls.{first, second, questions, rounds}
 use Rattle.compare.specs.Law.{rounded, no-round, classed, no-class, decided, no-verdict, told, no-formula, no-memory}
-use Rattle.compare.proofs.Rulings.{clean-level}
-use Rattle.compare.proofs.Separates.{separating}
 use Rattle.compare.proofs.Lists.{law-at, same-still}
 use Rattle.compare.proofs.comparison.Comparison.answer.Needs as need
 
@@ -51,8 +49,8 @@ returns-in-Ok-from-slice c =
     let p : ℕ = c .in-Formula .places in
     record {
       law = law-at s s _ _ _ _ (c .in-Formula .is) refl (told p (c .in-Ok-from-slice .v) (h .0)
-          (subst (λ (ns : List Node). Separating (first s) (second s) (questions s) (rounds s) ns) (sym (c .in-Ok-from-slice .ensures tt .made .0 ∙ h .1))
-            (separating s (clean-level (first s) (second s) (rounds s) p (h .0)))));
+          (subst (λ (ns : List Node). Separating (first s) (second s) (questions s) (rounds s) ns) (sym (c .in-Ok-from-slice .ensures tt .made .0 ∙ h .1 .0))
+            (h .1 .1 .separating)));
       same = same-still s s refl }
 
 pub returns-in-Err-from-slice : need.returns-in-Err-from-slice

@@ -6,13 +6,12 @@ use borrow.Author.Needs.{needs}
 use Rattle.std.specs.Of.Vec.{vec-items, vec-len, vec-cap}
 use Rattle.compare.specs.Calls.{first, second, questions, rounds}
 use Rattle.compare.proofs.Lists.{run-none, run-step, run-all, law-from, same-still, same-trans}
-use Rattle.compare.proofs.comparison.Comparison.run.Needs as need
+use Rattle.compare.proofs.comparison.Comparison.answer_all.Needs as need
 
 pub loop-request-holds : need.loop-request-holds
 loop-request-holds c =
     let s = c .args .self .now in
-    let h = c .in-Continue-answers .ensures tt .made in
-    (h .1 .0, h .1 .1, same-still s s refl, run-none (first s) (second s) (questions s) (rounds s) _ (h .0))
+    (search needs, c .pre .room, same-still s s refl, run-none (first s) (second s) (questions s) (rounds s) _ (c .pre .empty))
 
 pub loop-request-again : need.loop-request-again
 loop-request-again c =
@@ -32,5 +31,4 @@ returns c =
     let l : length (c .args .requests .now) ≤ c .loop-request .request-index = search needs in
     record {
       law = run-all (first s) (second s) (questions s) (rounds s) (c .args .requests .now) (c .loop-request .request-index) _ _ l (inv .3);
-      same = inv .2;
-      memory = tt }
+      same = inv .2 }

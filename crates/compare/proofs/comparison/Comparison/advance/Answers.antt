@@ -7,19 +7,15 @@ use Rattle.std.specs.Orderings.{When}
 use Rattle.std.proofs.shelf.Tests.{or-parts}
 use Rattle.kripke.specs.Structure.{Kripke}
 use Rattle.kripke.specs.Classes.{Classes}
-use Rattle.kripke.specs.Refusals.{First}
-use Rattle.kripke.specs.declared.refusal.Refusal.{Refusal}
-use Rattle.kripke.specs.declared.refusal.Layer.the-variants as layer
 use Rattle.refine.specs.declared.pair.Pair.{Pair}
 use Rattle.refine.specs.declared.refinement.Refinement.{Refinement}
 use Rattle.refine.specs.Refinements.{Advanced}
 use Rattle.refine.specs.Pairs.{first-of, second-of}
 use Rattle.compare.specs.Closing.{closed}
-use Rattle.compare.specs.Breaches.{RoundBreach}
 use Rattle.compare.specs.Calls.{first, second, questions, rounds}
 use Rattle.compare.proofs.Levels.{first-lawful, second-lawful}
-use Rattle.compare.proofs.Rulings.{Fresh, fresh-more, open-soon, round-refused, round-clean}
-use Rattle.compare.proofs.comparison.Comparison.round.Needs as need
+use Rattle.compare.proofs.Rulings.{Fresh, fresh-more, open-soon}
+use Rattle.compare.proofs.comparison.Comparison.advance.Needs as need
 
 -- A round of an open refinement is a round more.
 went : (r s : Refinement) (n : ℕ) → Advanced r s n → closed (first-of (r .pair)) (second-of (r .pair)) (r .rounds) ≡ false
@@ -39,16 +35,10 @@ counted r s n d w =
     subst (λ (k : ℕ). Classes (first-of (r .pair)) (second-of (r .pair)) k n) (w .1)
       (subst (λ (p : Pair). Classes (first-of p) (second-of p) (s .rounds) n) (w .0) (d .classes))
 
-pub returns-then-is-closed : need.returns-then-is-closed
-returns-then-is-closed c =
-    let s = c .args .self .now in
-    (subst (λ (z : Refusal). First (RoundBreach (first s) (second s) (rounds s)) layer.Comparison z) (sym (c .refusal .ensures))
-      (round-refused (first s) (second s) (rounds s) (sym (c .is-closed .ensures) ∙ c .if-is-closed .taken)), refl)
-
 pub ghost-self : need.ghost-self
 ghost-self c =
     let s = c .args .self .now in
-    let e = sym (c .is-closed .ensures) ∙ c .if-is-closed .left in
+    let e = c .pre in
     let w = went (s .stages) (c .round-count .last .self) (c .round-count .result) (c .round-count .ensures) e in
     let k = c .keep .ensures .kept in
     (fresh (s .stages) (c .round-count .last .self) w e (s .open),
@@ -57,11 +47,10 @@ ghost-self c =
 pub returns : need.returns
 returns c =
     let s = c .args .self .now in
-    let e = sym (c .is-closed .ensures) ∙ c .if-is-closed .left in
+    let e = c .pre in
     let w = went (s .stages) (c .round-count .last .self) (c .round-count .result) (c .round-count .ensures) e in
-    (round-clean (first s) (second s) (rounds s) e,
-     record {
+    record {
        same = record { first-is = ap first-of (w .0); second-is = ap second-of (w .0); questions-is = ap (λ (p : Pair). p .first .questions) (w .0) };
        one-more = w .1;
        soon = open-soon (questions s) (first s) (second s) (first-lawful (s .stages)) (second-lawful (s .stages)) (rounds s) (s .open) e;
-       classes = counted (s .stages) (c .round-count .last .self) (c .round-count .result) (c .round-count .ensures) w })
+       classes = counted (s .stages) (c .round-count .last .self) (c .round-count .result) (c .round-count .ensures) w }
