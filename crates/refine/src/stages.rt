@@ -27,9 +27,7 @@ impl Refinement {
         ensures { λ c. ⌜ Advanced (now (self .entry)) (now (self .exit)) c ⌝ }
     {
         if !self.rests {
-            let before = self.parts.count;
-            self.parts.round(&self.pair);
-            self.rests = self.parts.count == before;
+            self.rests = self.parts.round(&self.pair);
             self.rounds += 1;
         }
         self.parts.count as usize

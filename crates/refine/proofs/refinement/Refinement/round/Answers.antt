@@ -1,6 +1,9 @@
 use mathlib.Core.Path.{_≡_, refl, sym, _∙_, ap, subst}
 use mathlib.Core.Bool.{Bool, true, false, cond}
-use Prim.Native.Nat.{ℕ, suc, _+_, _≤_}
+use Prim.Native.Nat.{ℕ, suc, _+_, _<_, _≤_}
+use native.Mathlib.Omega.{arith}
+use borrow.Author.Needs.{needs}
+use Rattle.refine.proofs.Scan.{count-le}
 use lib.Dec.{eqb}
 use Rattle.std.specs.Orderings.{When}
 use native.Mathlib.Numerals.{add-one}
@@ -18,6 +21,13 @@ use Rattle.refine.proofs.Staging.{told-exact, exact-told, next-numbered, next-
 use Rattle.refine.proofs.refinement.Refinement.round.Needs as need
 use Rattle.refine.proofs.refinement.Refinement.round.Needs.{then-not-self, else-not-self}
 
+pub add-self : need.add-self
+add-self c =
+    let r : Refinement = c .args .self .now in
+    let pace : suc (r .rounds) ≤ r .parts .count = subst (λ (z : Bool). cond z (r .rounds) (suc (r .rounds)) ≤ r .parts .count) (c .if-not-self .taken) (r .pace) in
+    let l : r .rounds + 1 < 18446744073709551616 = omega (arith, pace, count-le (r .parts), r .parts .few) in
+    search needs
+
 pub ghost-self : need.ghost-self
 ghost-self c =
     let r : Refinement = c .args .self .now in
@@ -26,19 +36,20 @@ ghost-self c =
     let la = table-lawful (r .pair .first) .closed in
     let lb = table-lawful (r .pair .second) .closed in
     let p : Partition = r .parts in
-    let q : Partition = c .round .last .self in
+    let q : Partition = c .round-self .last .self in
     let k : ℕ = r .rounds in
-    let d = c .round .ensures .rounded in
+    let d = c .round-self .ensures .rounded in
     let k1 : suc k ≡ k + 1 = sym (add-one k) in
+    let b0 : c .round-self .result ≡ eqb (q .count) (p .count) = c .round-self .ensures .rests in
     let pace : suc k ≤ p .count = subst (λ (z : Bool). cond z k (suc k) ≤ p .count) (c .if-not-self .taken) (r .pace) in
     (d .keeps .states ∙ r .long,
     (d .keeps .questions ∙ r .asks,
-    (c .round .ensures .few,
+    (c .round-self .ensures .few,
     (exact-told (both a b) q (d .exact (told-exact (both a b) p (r .told))),
     (subst (λ (n : ℕ). Shallow n q) k1 (d .shallow k (r .shallow)),
     (subst (λ (n : ℕ). Numbered a b n (q .class)) k1 (next-numbered a b la lb k p q (r .long) (r .numbered) d),
-    (subst (λ (n : ℕ). eqb (q .count) (p .count) ≡ rested a b n) k1 (next-rests a b la lb k p q (r .long) (r .numbered) d),
-    (subst (λ (n : ℕ). cond (eqb (q .count) (p .count)) n (suc n) ≤ q .count) k1 (next-pace a b la lb k p q (r .long) (r .numbered) d pace), tt))))))))
+    (b0 ∙ subst (λ (n : ℕ). eqb (q .count) (p .count) ≡ rested a b n) k1 (next-rests a b la lb k p q (r .long) (r .numbered) d),
+    (subst (λ (z : Bool). cond z (k + 1) (suc (k + 1)) ≤ q .count) (sym b0) (subst (λ (n : ℕ). cond (eqb (q .count) (p .count)) n (suc n) ≤ q .count) k1 (next-pace a b la lb k p q (r .long) (r .numbered) d pace)), tt))))))))
 
 pub returns : need.returns
 returns c =

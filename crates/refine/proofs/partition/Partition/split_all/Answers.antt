@@ -1,7 +1,7 @@
 use Rattle.refine.specs.Pairs.{first-of, second-of}
 use Rattle.refine.proofs.Rowed.{table-lawful}
 use Rattle.refine.proofs.Rounding.{rounded}
-use Rattle.refine.proofs.partition.Partition.round.Needs as need
+use Rattle.refine.proofs.partition.Partition.split_all.Needs as need
 
 pub returns : need.returns
 returns c =
