@@ -1,5 +1,9 @@
-ghost use Rattle.refine.specs.Refinements.{Advanced, Opened};
+ghost use Prim.Native.Nat.{suc};
+ghost use Rattle.kripke.specs.Classes.{Classes};
+ghost use Rattle.refine.specs.Refinements.{Advanced, Opened, first, second};
 ghost use Rattle.std.specs.Vec.{made};
+ghost use mathlib.Core.Bool.{false};
+ghost use mathlib.Core.Path.{_≡_};
 use crate::pair::Pair;
 use crate::partition::Partition;
 use crate::reading::read;
@@ -22,14 +26,31 @@ impl Refinement {
         Ok(Refinement { pair, parts, rounds: 0, rests: false })
     }
 
+    // One round more.
+    fn advance(&mut self)
+        requires { ⌜ now self .rests ≡ false ⌝ }
+        ensures pair { λ _. ⌜ now (self .exit) .pair ≡ now (self .entry) .pair ⌝ }
+        ensures rounds { λ _. ⌜ now (self .exit) .rounds ≡ suc (now (self .entry) .rounds) ⌝ }
+    {
+        self.rests = self.parts.round(&self.pair);
+        self.rounds += 1;
+    }
+
+    // How many classes there are.
+    fn count(&self) -> usize
+        ensures { λ c. ⌜ Classes (first (now (self .entry))) (second (now (self .entry))) (now (self .entry) .rounds) c ⌝ }
+    {
+        self.parts.count as usize
+    }
+
     // One round more, unless the last one split nothing; how many classes there are.
     pub fn round(&mut self) -> usize
         ensures { λ c. ⌜ Advanced (now (self .entry)) (now (self .exit)) c ⌝ }
     {
-        if !self.rests {
-            self.rests = self.parts.round(&self.pair);
-            self.rounds += 1;
+        if self.rests {
+            return self.count();
         }
-        self.parts.count as usize
+        self.advance();
+        self.count()
     }
 }

@@ -3,7 +3,6 @@ use mathlib.Core.Bool.{Bool, true, false}
 use mathlib.Core.Logic.{inl, inr}
 use Prim.Native.Nat.{ℕ, suc, _<_, _≤_}
 use native.Mathlib.Omega.{arith}
-use Rattle.std.specs.Orderings.{When}
 use Rattle.std.proofs.shelf.Tests.{or-parts}
 use Rattle.kripke.specs.Structure.{Kripke}
 use Rattle.kripke.specs.Classes.{Classes}
@@ -20,9 +19,7 @@ use Rattle.compare.proofs.comparison.Comparison.advance.Needs as need
 -- A round of an open refinement is a round more.
 went : (r s : Refinement) (n : ℕ) → Advanced r s n → closed (first-of (r .pair)) (second-of (r .pair)) (r .rounds) ≡ false
     → (s .pair ≡ r .pair) × (s .rounds ≡ suc (r .rounds))
-went r s n d e =
-    let f : r .rests ≡ false = r .last ∙ or-parts _ _ e .1 in
-    subst (λ (b : Bool). When b (s ≡ r) ((s .pair ≡ r .pair) × (s .rounds ≡ suc (r .rounds)))) f (d .stays)
+went r s n d e = d .goes-on (r .last ∙ or-parts _ _ e .1)
 
 fresh : (r s : Refinement) → (s .pair ≡ r .pair) × (s .rounds ≡ suc (r .rounds)) → closed (first-of (r .pair)) (second-of (r .pair)) (r .rounds) ≡ false
     → Fresh (first-of (r .pair)) (second-of (r .pair)) (r .rounds) → Fresh (first-of (s .pair)) (second-of (s .pair)) (s .rounds)

@@ -5,7 +5,6 @@ use native.Mathlib.Omega.{arith}
 use borrow.Author.Needs.{needs}
 use Rattle.refine.proofs.Scan.{count-le}
 use lib.Dec.{eqb}
-use Rattle.std.specs.Orderings.{When}
 use native.Mathlib.Numerals.{add-one}
 use Rattle.kripke.specs.Structure.{Kripke}
 use Rattle.kripke.specs.Classes.{Numbered}
@@ -13,18 +12,16 @@ use Rattle.kripke.specs.Union.{both}
 use Rattle.refine.specs.Pairs.{first-of, second-of}
 use Rattle.refine.specs.Steps.{Shallow}
 use Rattle.refine.specs.Stages.{rested}
-use Rattle.refine.specs.Refinements.{Advanced}
 use Rattle.refine.specs.declared.partition.Partition.{Partition}
 use Rattle.refine.specs.declared.refinement.Refinement.{Refinement}
 use Rattle.refine.proofs.Rowed.{table-lawful}
-use Rattle.refine.proofs.Staging.{told-exact, exact-told, next-numbered, next-rests, next-pace, classes-counted}
-use Rattle.refine.proofs.refinement.Refinement.round.Needs as need
-use Rattle.refine.proofs.refinement.Refinement.round.Needs.{then-not-self, else-not-self}
+use Rattle.refine.proofs.Staging.{told-exact, exact-told, next-numbered, next-rests, next-pace}
+use Rattle.refine.proofs.refinement.Refinement.advance.Needs as need
 
 pub add-self : need.add-self
 add-self c =
     let r : Refinement = c .args .self .now in
-    let pace : suc (r .rounds) ≤ r .parts .count = subst (λ (z : Bool). cond z (r .rounds) (suc (r .rounds)) ≤ r .parts .count) (c .if-not-self .taken) (r .pace) in
+    let pace : suc (r .rounds) ≤ r .parts .count = subst (λ (z : Bool). cond z (r .rounds) (suc (r .rounds)) ≤ r .parts .count) (c .pre) (r .pace) in
     let l : r .rounds + 1 < 18446744073709551616 = omega (arith, pace, count-le (r .parts), r .parts .few) in
     search needs
 
@@ -41,7 +38,7 @@ ghost-self c =
     let d = c .round-self .ensures .rounded in
     let k1 : suc k ≡ k + 1 = sym (add-one k) in
     let b0 : c .round-self .result ≡ eqb (q .count) (p .count) = c .round-self .ensures .rests in
-    let pace : suc k ≤ p .count = subst (λ (z : Bool). cond z k (suc k) ≤ p .count) (c .if-not-self .taken) (r .pace) in
+    let pace : suc k ≤ p .count = subst (λ (z : Bool). cond z k (suc k) ≤ p .count) (c .pre) (r .pace) in
     (d .keeps .states ∙ r .long,
     (d .keeps .questions ∙ r .asks,
     (c .round-self .ensures .few,
@@ -51,13 +48,3 @@ ghost-self c =
     (b0 ∙ subst (λ (n : ℕ). eqb (q .count) (p .count) ≡ rested a b n) k1 (next-rests a b la lb k p q (r .long) (r .numbered) d),
     (subst (λ (z : Bool). cond z (k + 1) (suc (k + 1)) ≤ q .count) (sym b0) (subst (λ (n : ℕ). cond (eqb (q .count) (p .count)) n (suc n) ≤ q .count) k1 (next-pace a b la lb k p q (r .long) (r .numbered) d pace)), tt))))))))
 
-pub returns : need.returns
-returns c =
-    let r : Refinement = c .args .self .now in
-    let s : Refinement = c .if-not-self .self in
-    record {
-      stays = elim (c .if-not-self .came) [
-          then-not-self w ↦ subst (λ (z : Bool). When z (s ≡ r) ((s .pair ≡ r .pair) × (s .rounds ≡ suc (r .rounds)))) (sym (w .if-not-self .taken))
-              (ap (λ (x : Refinement). x .pair) (w .self-is), ap (λ (x : Refinement). x .rounds) (w .self-is) ∙ add-one (r .rounds))
-        | else-not-self w ↦ subst (λ (z : Bool). When z (s ≡ r) ((s .pair ≡ r .pair) × (s .rounds ≡ suc (r .rounds)))) (sym (w .if-not-self .left)) (w .self-is) ];
-      classes = classes-counted (first-of (s .pair)) (second-of (s .pair)) (s .rounds) (s .parts) (s .long) (s .numbered) }
