@@ -1,12 +1,11 @@
 -- The closing rule as a test, and what follows from it for the calls.
 use mathlib.Core.Path.{_≡_, refl, sym, _∙_, ap, subst}
-use mathlib.Core.Bool.{Bool, true, false, _&&_, _||_, not}
+use mathlib.Core.Bool.{Bool, true, false, cond, _&&_, _||_, not}
 use mathlib.Core.Logic.{_⊎_, inl, inr, ⊎-elim, _↔_}
 use Prim.Native.Nat.{ℕ, zero, suc, _+_, _*_, _<_, _≤_}
 use native.Mathlib.Omega.{arith}
 use native.Mathlib.Decide.{ℕ-discrete}
 use lib.Dec.{T}
-use Rattle.std.proofs.shelf.Tests.{cases-bool}
 use Rattle.kripke.specs.Structure.{Kripke, Lawful, size}
 use Rattle.kripke.specs.Rounds.{Same, Settled, Apart, total, ClosedDifferent, ClosedAlike, ClosedAfter, FirstClosed}
 use Rattle.kripke.specs.Refusals.{Before, Clean, First}
@@ -71,9 +70,8 @@ Fresh a b k = (j : ℕ) → j < k → T (not (closed a b j))
 
 pub fresh-more : (a b : Kripke) (k : ℕ) → Fresh a b k → closed a b k ≡ false → Fresh a b (suc k)
 fresh-more a b k h e j l = elim (ℕ-discrete j k) [
-  | yes z ↦ subst (λ (i : ℕ). T (not (closed a b i))) (sym z) (T-not _ (no-T _ e))
-  | no z ↦ h j (omega arith)
-]
+    yes z ↦ subst (λ (i : ℕ). T (not (closed a b i))) (sym z) (T-not _ (no-T _ e))
+  | no z ↦ h j (omega arith) ]
 
 pub fresh-closed : (a b : Kripke) (k : ℕ) → Fresh a b k → (j : ℕ) → j < k → ClosedAfter a b j → ⊥
 fresh-closed a b k h j l z = not-T _ (h j l) (closed-to a b j z)
@@ -95,21 +93,28 @@ module _ (q : ℕ) (a b : Kripke) (la : Lawful q a) (lb : Lawful q b) where
       let z = different-separated q a b la lb k (first-different k h e) (different-T a b k e) .0 in
       let x : Apart a b (a .initial) (b .initial) = (z .0, z .3) in
       record {
-        rounds = refl;
-        soon = fresh-soon k h;
+        rounds = refl; soon = fresh-soon k h;
         alike = (λ w. absurd (let y : _≡_ {A = ℕ} 0 1 = cc in omega arith), λ w. absurd (w x));
-        different = (λ w. x, λ w. refl);
-      }
+        different = (λ w. x, λ w. refl) }
 
   pub decides-alike : (k : ℕ) → Fresh a b k → level a b k ≡ true → rested a b k ≡ true → Decides a b k (record { rounds = k; outcome = Alike })
   decides-alike k h e r =
       let x : Apart a b (a .initial) (b .initial) → ⊥ = alike-agree q a b la lb k (alike-T a b k e r) in
       record {
-        rounds = refl;
-        soon = fresh-soon k h;
+        rounds = refl; soon = fresh-soon k h;
         alike = (λ w. x, λ w. refl);
-        different = (λ w. absurd (let y : _≡_ {A = ℕ} 0 1 = cc in omega arith), λ w. absurd (x w));
-      }
+        different = (λ w. absurd (let y : _≡_ {A = ℕ} 0 1 = cc in omega arith), λ w. absurd (x w)) }
+
+  -- A closed comparison's verdict, by the test of the initial states.
+  pub decides : (k : ℕ) → Fresh a b k → closed a b k ≡ true → (d : Bool) (o : Outcome) → d ≡ not (level a b k) → o ≡ cond d Different Alike
+      → Decides a b k (record { rounds = k; outcome = o })
+  decides k h e d o f g =
+      subst (λ (z : Outcome). Decides a b k (record { rounds = k; outcome = z })) (sym (g ∙ ap (λ x. cond x Different Alike) f)) (go (level a b k) (rested a b k) refl refl)
+    where
+      go : (l r : Bool) → level a b k ≡ l → rested a b k ≡ r → Decides a b k (record { rounds = k; outcome = cond (not l) Different Alike })
+      go false r p q = decides-different k h p
+      go true true p q = decides-alike k h p q
+      go true false p q = absurd (let w : closed a b k ≡ false = ap (λ l. not l || rested a b k) p ∙ q in let z : _≡_ {A = ℕ} 0 1 = cc in omega arith)
 
 -- Refusals, each the first breach.
 module _ (a b : Kripke) (k : ℕ) where
@@ -127,13 +132,11 @@ module _ (a b : Kripke) (k : ℕ) where
   verdict-least _ _ (inl l) (unclosed z) = omega arith
   verdict-least _ _ (inr l) (unclosed z) = omega (arith, l .1)
 
-  pub verdict-refused : level a b k ≡ true → rested a b k ≡ false
+  pub verdict-refused : closed a b k ≡ false
       → First (VerdictBreach a b k) layer.Comparison (record { cause = OpenComparison; layer = layer.Comparison; place = k })
-  verdict-refused e r = record {
-    broken = unclosed (λ z. no-T (closed a b k) (ap (λ l. not l || rested a b k) e ∙ r) (closed-to a b k z));
-    least = verdict-least;
-    layered = refl;
-  }
+  verdict-refused e = record {
+      broken = unclosed (λ z. no-T (closed a b k) e (closed-to a b k z));
+      least = verdict-least; layered = refl }
 
   pub verdict-clean : ClosedAfter a b k → Clean (VerdictBreach a b k)
   verdict-clean c _ _ (unclosed z) = z c
@@ -172,10 +175,3 @@ module _ (a b : Kripke) (k places : ℕ) where
   pub formula-clean : level a b k ≡ false → 4 * total a b ≤ places + 3 → Clean (FormulaBreach a b k places)
   formula-clean e h _ _ (no-difference z) = z (different-T a b k e)
   formula-clean e h _ _ (few z) = omega arith
-
-  -- What an accepted reading knows.
-  pub clean-level : Clean (FormulaBreach a b k places) → level a b k ≡ false
-  clean-level h = ⊎-elim (λ (e : level a b k ≡ true). absurd (h NotDifferent k (no-difference (λ d. d (same-of a b k e))))) (λ e. e) (cases-bool (level a b k))
-
-  pub clean-places : Clean (FormulaBreach a b k places) → 4 * total a b ≤ places + 3
-  clean-places h = let f : places + 3 < 4 * total a b → ⊥ = λ l. h FewPlaces places (few l) in omega (arith, f)

@@ -48,6 +48,11 @@ pub record Rounded (c d : Comparison) (n : ℕ) : Type 0 where
   pub soon : suc (rounds c) ≤ total (first c) (second c)
   pub classes : Classes (first c) (second c) (suc (rounds c)) n
 
+-- There is a formula that tells the models apart, and so many places hold it.
+pub record Tellable (c : Comparison) (places : ℕ) : Type 0 where
+  pub separating : Separating (first c) (second c) (questions c) (rounds c) (table c)
+  pub fits : length (table c) ≤ places
+
 -- The first n places hold the table, which tells the models apart, and the rest is as it was.
 pub record Written (c : Comparison) (before after : List Node) (n : ℕ) : Type 0 where
   pub separating : Separating (first c) (second c) (questions c) (rounds c) (table c)

@@ -1,10 +1,11 @@
 // The comparison of two models: opening, rounds and readings, and any list of requests.
 
-mod calls;
 pub mod comparison;
+pub mod requests;
+pub mod verdict;
+
+mod calls;
 mod prune;
 mod reading;
-pub mod requests;
 mod running;
 mod telling;
-pub mod verdict;

@@ -1,6 +1,6 @@
-ghost use Prim.Native.Nat.{_≤_};
+ghost use Prim.Native.Nat.{_+_, _*_, _≤_};
 ghost use Rattle.compare.specs.Breaches.{FormulaBreach};
-ghost use Rattle.compare.specs.Calls.{Written, first, rounds, second, table};
+ghost use Rattle.compare.specs.Calls.{Tellable, Written, first, rounds, second, table};
 ghost use Rattle.kripke.specs.Refusals.{Judged};
 ghost use Rattle.kripke.specs.declared.refusal.Layer.the-variants as layer;
 ghost use lib.ListN.{drop, length, take};
@@ -26,19 +26,35 @@ fn write(nodes: &[Node], places: &mut [Node])
     }
 }
 
+// How many places are enough for a formula of so many states.
+fn enough(states: usize) -> usize
+    requires { ⌜ 1 ≤ states ⌝ ∗ ⌜ states ≤ 512 ⌝ }
+    ensures { λ r. ⌜ r + 3 ≡ 4 * states ⌝ }
+{
+    4 * states - SPARED
+}
+
 impl Comparison {
-    // The kept formula, where there is one and so many places are enough for it.
-    pub(crate) fn told(&self, places: usize) -> Result<&[Node], Refusal>
+    // Is there a formula, and are so many places enough for it?
+    fn judge_formula(&self, places: usize) -> Result<(), Refusal>
         ensures { λ r. ⌜ Judged (FormulaBreach (first (now (self .entry))) (second (now (self .entry))) (rounds (now (self .entry))) places) layer.Comparison
-            (λ t. now t ≡ table (now (self .entry))) (Unit {0}) r ⌝ }
+            (λ _. Tellable (now (self .entry)) places) (Unit {0}) r ⌝ }
     {
         if !differs(&self.stages) {
             return Err(refusal(Cause::NotDifferent, self.stages.rounds));
         }
-        let least = 4 * self.stages.parts.states as usize - SPARED;
-        if places < least {
+        if places < enough(self.stages.parts.states as usize) {
             return Err(refusal(Cause::FewPlaces, places));
         }
+        Ok(())
+    }
+
+    // The kept formula, where there is one and so many places are enough for it.
+    pub(crate) fn told(&self, places: usize) -> Result<&[Node], Refusal>
+        ensures { λ r. ⌜ Judged (FormulaBreach (first (now (self .entry))) (second (now (self .entry))) (rounds (now (self .entry))) places) layer.Comparison
+            (λ t. (now t ≡ table (now (self .entry))) × Tellable (now (self .entry)) places) (Unit {0}) r ⌝ }
+    {
+        self.judge_formula(places)?;
         Ok(self.formula.as_slice())
     }
 

@@ -1,7 +1,7 @@
 -- What a refinement is opened with, and what a round makes of it.
 use mathlib.Core.Path.{_≡_}
 use Prim.Native.Nat.{ℕ, suc}
-use Rattle.std.specs.Orderings.{When}
+use mathlib.Core.Bool.{true, false}
 use Rattle.kripke.specs.Structure.{Kripke}
 use Rattle.kripke.specs.Classes.{Classes}
 use Rattle.refine.specs.Pairs.{first-of, second-of}
@@ -26,5 +26,6 @@ pub record Opened (q : ℕ) (a b : Kripke) (r : Refinement) : Type 0 where
 
 -- One round more, unless the last one split nothing; c classes are left.
 pub record Advanced (r s : Refinement) (c : ℕ) : Type 0 where
-  pub stays : When (r .rests) (s ≡ r) ((s .pair ≡ r .pair) × (s .rounds ≡ suc (r .rounds)))
+  pub stays : r .rests ≡ true → s ≡ r
+  pub goes-on : r .rests ≡ false → (s .pair ≡ r .pair) × (s .rounds ≡ suc (r .rounds))
   pub classes : Classes (first s) (second s) (s .rounds) c

@@ -1,6 +1,7 @@
 -- What the opening and a round do to a partition, where u is both structures as one.
 use mathlib.Core.Path.{_≡_}
-use mathlib.Core.Bool.{Bool}
+use mathlib.Core.Bool.{Bool, false}
+use mathlib.Core.List.{List}
 use mathlib.Core.Logic.{_↔_}
 use Prim.Native.Nat.{ℕ, suc, _<_}
 use lib.ListN.{getD}
@@ -9,7 +10,10 @@ use Rattle.kripke.specs.Ctl.{Formula}
 use Rattle.kripke.specs.Classes.{Alike, Refined}
 use Rattle.refine.specs.Growth.{Boolean}
 use Rattle.refine.specs.Tests.{test, hits}
-use Rattle.refine.specs.Steps.{class-of, Exact, Shallow, Few, Keeps}
+use Rattle.refine.specs.Steps.{class-of, Exact, Shallow, Few, Keeps, Divided}
+use Rattle.refine.specs.Pairs.{first-of, second-of, both-of}
+use Rattle.refine.specs.declared.pair.Pair.{Pair}
+use Rattle.kripke.specs.Rounds.{total}
 use Rattle.refine.specs.declared.partition.Partition.{Partition}
 
 -- All states in one class, whose formula is true.
@@ -28,6 +32,12 @@ pub record Asking (u : Kripke) (p q : Partition) (i : ℕ) : Type 0 where
       → Alike (q .class) s t ↔ (Alike (p .class) s t × ((j : ℕ) → j < i → answer u s j ≡ answer u t j))
   pub exact : Exact (test u) p → Exact (test u) q
   pub shallow : (d : ℕ) → Shallow d p → Shallow d q
+
+-- From p to q the classes were split by class c of a table, whose node is `name`: which states have a successor there.
+pub record Halved (pair : Pair) (table : List ℕ) (c name : ℕ) (p q : Partition) : Type 0 where
+  pub row : List Bool
+  pub hit : (s : ℕ) → s < total (first-of pair) (second-of pair) → getD row s false ≡ hits (both-of pair) table c s
+  pub divided : Divided p q (record { code = 5; a = name; b = 0 }) row
 
 -- From p to q the classes were split by each class of p below i: which states have a successor there.
 pub record Refining (u : Kripke) (p q : Partition) (i : ℕ) : Type 0 where

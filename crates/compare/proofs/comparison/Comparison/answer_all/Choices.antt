@@ -4,7 +4,7 @@ use lib.ListN.{length, take}
 use Rattle.std.specs.Of.Vec.{vec-items, vec-len, vec-cap}
 use Rattle.compare.specs.Calls.{Same, first, second, questions, rounds}
 use Rattle.compare.specs.Law.{Run, Kept}
-use Rattle.compare.proofs.comparison.Comparison.run.Given as given
+use Rattle.compare.proofs.comparison.Comparison.answer_all.Given as given
 
 abbrev pub Inv-loop-request : given.InvT-loop-request
 Inv-loop-request l =
