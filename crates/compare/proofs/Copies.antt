@@ -22,17 +22,17 @@ use Rattle.compare.proofs.Marks.{kept-reach, reach-low}
 
 pub copied-skip : (qs : ℕ) (ns : List Node) (ks : List Bool) (i : ℕ) (to : List ℕ) (ms : List Node) → getD ks i false ≡ false → Copied qs ns ks i to ms → Copied qs ns ks (i + 1) to ms
 copied-skip qs ns ks i to ms f c = record {
-    few = omega (arith, c .few);
-    orderly = c .orderly;
-    each = below-more (λ j. getD ks j false ≡ true → getD to j 0 < length ms) i (c .each) (λ e. never (sym f ∙ e));
-    same = below-more (λ j. getD ks j false ≡ true → formula ms (getD to j 0) ≡ formula ns j) i (c .same) (λ e. never (sym f ∙ e));
-    image = below-more (λ j. getD ks j false ≡ true → getD ms (getD to j 0) blank ≡ rename to (getD ns j blank)) i (c .image) (λ e. never (sym f ∙ e));
-    onto = λ k h. let r = c .onto k h in (r .0, omega (arith, r .1), r .2, r .3);
-    last = λ j h e. let s : j ≡ i = omega arith in never (sym f ∙ sym (ap (λ (z : ℕ). getD ks z false) s) ∙ e) }
+  few = omega (arith, c .few);
+  orderly = c .orderly;
+  each = below-more (λ j. getD ks j false ≡ true → getD to j 0 < length ms) i (c .each) (λ e. never (sym f ∙ e));
+  same = below-more (λ j. getD ks j false ≡ true → formula ms (getD to j 0) ≡ formula ns j) i (c .same) (λ e. never (sym f ∙ e));
+  image = below-more (λ j. getD ks j false ≡ true → getD ms (getD to j 0) blank ≡ rename to (getD ns j blank)) i (c .image) (λ e. never (sym f ∙ e));
+  onto = λ k h. let r = c .onto k h in (r .0, omega (arith, r .1), r .2, r .3);
+  last = λ j h e. let s : j ≡ i = omega arith in never (sym f ∙ sym (ap (λ (z : ℕ). getD ks z false) s) ∙ e);
+}
 
 module _ (qs : ℕ) (ns : List Node) (ks : List Bool) (i : ℕ) (to : List ℕ) (ms : List Node)
     (he : Orderly qs ns) (hi : i < length ns) (ht : i < length to) (hr : Refs ns ks i) (c : Copied qs ns ks i to ms) where
-
   abbrev node : Node
   node = getD ns i blank
 
@@ -66,8 +66,8 @@ module _ (qs : ℕ) (ns : List Node) (ks : List Bool) (i : ℕ) (to : List ℕ) 
   same-new : made (formulas ms) new ≡ formula ns i
   same-new =
       rename-made to node (formulas ms) (formulas ns)
-        (λ e. c .same (node .a) (a-low e) (hr .first e))
-        (λ e. c .same (node .b) (b-low e) (hr .second e)) qs i (he i hi)
+      (λ e. c .same (node .a) (a-low e) (hr .first e))
+      (λ e. c .same (node .b) (b-low e) (hr .second e)) qs i (he i hi)
       ∙ sym (node-is qs ns he i hi)
 
   same-more : (j : ℕ) → j < i + 1 → getD ks j false ≡ true → formula ms′ (getD to′ j 0) ≡ formula ns j
@@ -88,21 +88,21 @@ module _ (qs : ℕ) (ns : List Node) (ks : List Bool) (i : ℕ) (to : List ℕ) 
   -- One marked node more.
   pub copied-more : getD ks i false ≡ true → Copied qs ns ks (i + 1) to′ ms′
   copied-more hk = record {
-      few = omega (arith, c .few, long);
-      orderly = orderly-push qs ms ms′ new refl (c .orderly) ordered-new;
-      each = below-more (λ j. getD ks j false ≡ true → getD to′ j 0 < length ms′) i
+    few = omega (arith, c .few, long);
+    orderly = orderly-push qs ms ms′ new refl (c .orderly) ordered-new;
+    each = below-more (λ j. getD ks j false ≡ true → getD to′ j 0 < length ms′) i
         (λ j l e. omega (arith, to-old j l, c .each j l e, long)) (λ e. omega (arith, to-new, long));
-      same = same-more;
-      image = image-more;
-      onto = λ k h. below-more (λ k. (j : ℕ) × (j < i + 1) × (getD ks j false ≡ true) × (getD to′ j 0 ≡ k)) (length ms)
+    same = same-more;
+    image = image-more;
+    onto = λ k h. below-more (λ k. (j : ℕ) × (j < i + 1) × (getD ks j false ≡ true) × (getD to′ j 0 ≡ k)) (length ms)
         (λ k l. let r = c .onto k l in (r .0, omega (arith, r .1), r .2, to-old (r .0) (r .1) ∙ r .3))
         (i, omega arith, hk, to-new) k (omega (arith, long));
-      last = λ j h e. let s : j ≡ i = omega arith in omega (arith, ap (λ (z : ℕ). getD to′ z 0) s, to-new, long) }
+    last = λ j h e. let s : j ≡ i = omega arith in omega (arith, ap (λ (z : ℕ). getD to′ z 0) s, to-new, long);
+  }
 
 -- The whole.
 module _ (qs : ℕ) (ns : List Node) (root : ℕ) (ks : List Bool) (to : List ℕ) (ms : List Node)
     (he : Orderly qs ns) (hi : root < length ns) (m : Marking ns root 0 ks) (c : Copied qs ns ks (root + 1) to ms) where
-
   low : {j : ℕ} → Reach ns root j → j < root + 1
   low p = let l = reach-low qs ns root he hi p in omega arith
 
@@ -116,10 +116,10 @@ module _ (qs : ℕ) (ns : List Node) (root : ℕ) (ks : List Bool) (to : List �
   top-is = omega (arith, top)
 
   a-is : (n p : Node) → p ≡ rename to n → usesA n ≡ true → (usesA p ≡ true) × (p .a ≡ getD to (n .a) 0)
-  a-is n p d e = ( ap usesA d ∙ e, ap (λ (z : Node). z .a) d ∙ ap (λ u. cond u (getD to (n .a) 0) (n .a)) e )
+  a-is n p d e = (ap usesA d ∙ e, ap (λ (z : Node). z .a) d ∙ ap (λ u. cond u (getD to (n .a) 0) (n .a)) e)
 
   b-is : (n p : Node) → p ≡ rename to n → usesB n ≡ true → (usesB p ≡ true) × (p .b ≡ getD to (n .b) 0)
-  b-is n p d e = ( ap usesB d ∙ e, ap (λ (z : Node). z .b) d ∙ ap (λ u. cond u (getD to (n .b) 0) (n .b)) e )
+  b-is n p d e = (ap usesB d ∙ e, ap (λ (z : Node). z .b) d ∙ ap (λ u. cond u (getD to (n .b) 0) (n .b)) e)
 
   carried : {j : ℕ} → Reach ns root j → Reach ms (getD to root 0) (getD to j 0)
   carried here = here
@@ -132,12 +132,13 @@ module _ (qs : ℕ) (ns : List Node) (root : ℕ) (ks : List Bool) (to : List �
 
   pub pruned : Pruned qs ns root ms
   pruned = record {
-      some = omega (arith, top);
-      few = c .few;
-      orderly = c .orderly;
-      same = ap (λ (z : ℕ). formula ms z) top-is ∙ c .same root (omega arith) (m .top);
-      useful = λ k h. let r = c .onto k h in
-        subst (λ z. Reach ms z k) (sym top-is) (subst (λ z. Reach ms (getD to root 0) z) (r .3) (carried (m .sound (r .0) (r .2)))) }
+    some = omega (arith, top);
+    few = c .few;
+    orderly = c .orderly;
+    same = ap (λ (z : ℕ). formula ms z) top-is ∙ c .same root (omega arith) (m .top);
+    useful = λ k h. let r = c .onto k h in
+        subst (λ z. Reach ms z k) (sym top-is) (subst (λ z. Reach ms (getD to root 0) z) (r .3) (carried (m .sound (r .0) (r .2))));
+  }
 
 -- The same for the items of a vector.
 pub copied-push : (qs : ℕ) (ns : List Node) (ks : List Bool) (i : ℕ) (to : List ℕ) (m : ℕ) (ms ms′ : List Node) (x : Node)
@@ -145,5 +146,5 @@ pub copied-push : (qs : ℕ) (ns : List Node) (ks : List Bool) (i : ℕ) (to : L
     → m ≡ length ms → ms′ ≡ ms ++ x ∷ [] → Copied qs ns ks i to ms → Copied qs ns ks (i + 1) (set to i m) ms′
 copied-push qs ns ks i to m ms ms′ x he hi ht hr hk e d p c =
     subst (λ (z : List Node). Copied qs ns ks (i + 1) (set to i m) z) (sym (p ∙ ap (λ (z : Node). ms ++ z ∷ []) e))
-      (subst (λ (z : ℕ). Copied qs ns ks (i + 1) (set to i z) (ms ++ rename to (getD ns i blank) ∷ [])) (sym d)
-        (copied-more qs ns ks i to ms he hi ht hr c hk))
+    (subst (λ (z : ℕ). Copied qs ns ks (i + 1) (set to i z) (ms ++ rename to (getD ns i blank) ∷ [])) (sym d)
+    (copied-more qs ns ks i to ms he hi ht hr c hk))

@@ -62,10 +62,10 @@ module _ (r : Refinement) where
       beq-T _ _ .0 (r .numbered one other (omega (arith, one-in, r .long)) (omega (arith, other-in, r .long)))
       ∙ ap (λ (j : ℕ). together (first r) (second r) (r .rounds) one j) e
       ∙ bools _ _
-          (λ t. same-T (first r) (second r) (r .rounds) one (r .pair .second .initial) .1
-            (c .1 (together-T (first r) (second r) (r .rounds) one (size (first r) + r .pair .second .initial) .0 t)))
-          (λ t. together-T (first r) (second r) (r .rounds) one (size (first r) + r .pair .second .initial) .1
-            (c .0 (same-T (first r) (second r) (r .rounds) one (r .pair .second .initial) .0 t)))
+      (λ t. same-T (first r) (second r) (r .rounds) one (r .pair .second .initial) .1
+      (c .1 (together-T (first r) (second r) (r .rounds) one (size (first r) + r .pair .second .initial) .0 t)))
+      (λ t. together-T (first r) (second r) (r .rounds) one (size (first r) + r .pair .second .initial) .1
+      (c .0 (same-T (first r) (second r) (r .rounds) one (r .pair .second .initial) .0 t)))
 
   pub nodes-few : length (vec-items (r .parts .nodes)) + 3 ≤ 4 * total (first r) (second r)
   nodes-few = omega (arith, r .few, count-le (r .parts), r .long)
@@ -75,10 +75,11 @@ module _ (r : Refinement) where
 
   pub kept-none : level (first r) (second r) (r .rounds) ≡ true → (ns : List Node) → ns ≡ [] → Kept r ns
   kept-none e ns z = subst (λ (l : List Node). Kept r l) (sym z) (record {
-      few = omega (arith, first-lawful .some);
-      orderly = λ i l. absurd (omega arith);
-      useful = λ i l. absurd (omega arith);
-      telling = subst T (sym (ap (λ b. b || tells (first r) (second r) (r .rounds) []) e)) tt })
+    few = omega (arith, first-lawful .some);
+    orderly = λ i l. absurd (omega arith);
+    useful = λ i l. absurd (omega arith);
+    telling = subst T (sym (ap (λ b. b || tells (first r) (second r) (r .rounds) []) e)) tt;
+  })
 
   module _ (e : level (first r) (second r) (r .rounds) ≡ false) (ns : List Node)
       (h : Pruned (questions r) (vec-items (r .parts .nodes)) (getD (r .parts .node) (class-of (r .parts) one) 0) ns) where
@@ -101,10 +102,11 @@ module _ (r : Refinement) where
 
     pub kept-some : Kept r ns
     kept-some = record {
-        few = omega (arith, h .few, nodes-few, r .parts .here one one-in);
-        orderly = h .orderly;
-        useful = h .useful;
-        telling = subst (λ b. T (b || tells (first r) (second r) (r .rounds) ns)) (sym e)
+      few = omega (arith, h .few, nodes-few, r .parts .here one one-in);
+      orderly = h .orderly;
+      useful = h .useful;
+      telling = subst (λ b. T (b || tells (first r) (second r) (r .rounds) ns)) (sym e)
           (T-and _ _
-            (T-and _ _ (yes-T _ (lt-ltb 0 (length ns) (h .some))) (yes-T _ (le-leb _ _ (subst (λ (f : Formula). nesting f ≤ r .rounds) (sym same-root) (r .shallow one one-in)))))
-            (T-and _ _ (yes-T _ at-one) (yes-T _ (ap not at-other)))) }
+          (T-and _ _ (yes-T _ (lt-ltb 0 (length ns) (h .some))) (yes-T _ (le-leb _ _ (subst (λ (f : Formula). nesting f ≤ r .rounds) (sym same-root) (r .shallow one one-in)))))
+          (T-and _ _ (yes-T _ at-one) (yes-T _ (ap not at-other))));
+    }

@@ -38,7 +38,7 @@ pub law-at : (c d : Comparison) (r r′ : Request) (s : Answer) (m : ℕ) → r 
     → Obeys (first c) (second c) (questions c) (rounds c) r s (rounds d)
 law-at c d r r′ s m e f o =
     subst (λ (x : Request). Obeys (first c) (second c) (questions c) (rounds c) x s (rounds d)) (sym e)
-      (subst (λ (x : ℕ). Obeys (first c) (second c) (questions c) (rounds c) r′ s x) (sym f) o)
+    (subst (λ (x : ℕ). Obeys (first c) (second c) (questions c) (rounds c) r′ s x) (sym f) o)
 
 pub same-still : (c d : Comparison) → d ≡ c → Same c d
 same-still c d e = record { first-is = ap first e; second-is = ap second e; questions-is = ap questions e }
@@ -51,5 +51,5 @@ pub law-from : (c d : Comparison) (r : Request) (s : Answer) (m : ℕ) → Same 
     → Obeys (first c) (second c) (questions c) (rounds d) r s m
 law-from c d r s m e o =
     subst (λ (a : Kripke). Obeys a (second c) (questions c) (rounds d) r s m) (e .first-is)
-      (subst (λ (b : Kripke). Obeys (first d) b (questions c) (rounds d) r s m) (e .second-is)
-        (subst (λ (q : ℕ). Obeys (first d) (second d) q (rounds d) r s m) (e .questions-is) o))
+    (subst (λ (b : Kripke). Obeys (first d) b (questions c) (rounds d) r s m) (e .second-is)
+    (subst (λ (q : ℕ). Obeys (first d) (second d) q (rounds d) r s m) (e .questions-is) o))

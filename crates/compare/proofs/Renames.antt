@@ -74,16 +74,16 @@ module _ (to : List ℕ) (n : Node) where
       subst (λ (k : ℕ). T (fits q m (rename to n .a) (rename to n .b) k)) (sym c) (T-and _ _ (eq-T _ _ (a-kept (a-of n 0 c) ∙ a)) (eq-T _ _ (b-kept (b-of n 0 c) ∙ b)))
   rename-shape q i m (asks c a b) p r =
       subst (λ (k : ℕ). T (fits q m (rename to n .a) (rename to n .b) k)) (sym c)
-        (T-and _ _ (lt-T _ _ (subst (λ (z : ℕ). z < q) (sym (a-kept (a-of n 1 c))) a)) (eq-T _ _ (b-kept (b-of n 1 c) ∙ b)))
+      (T-and _ _ (lt-T _ _ (subst (λ (z : ℕ). z < q) (sym (a-kept (a-of n 1 c))) a)) (eq-T _ _ (b-kept (b-of n 1 c) ∙ b)))
   rename-shape q i m (denies c a b) p r =
       subst (λ (k : ℕ). T (fits q m (rename to n .a) (rename to n .b) k)) (sym c)
-        (T-and _ _ (lt-T _ _ (subst (λ (z : ℕ). z < m) (sym (a′ (a-of n 2 c))) (p (a-of n 2 c)))) (eq-T _ _ (b-kept (b-of n 2 c) ∙ b)))
+      (T-and _ _ (lt-T _ _ (subst (λ (z : ℕ). z < m) (sym (a′ (a-of n 2 c))) (p (a-of n 2 c)))) (eq-T _ _ (b-kept (b-of n 2 c) ∙ b)))
   rename-shape q i m (joins c a b) p r =
       subst (λ (k : ℕ). T (fits q m (rename to n .a) (rename to n .b) k)) (sym c)
-        (T-and _ _ (lt-T _ _ (subst (λ (z : ℕ). z < m) (sym (a′ (a-of n 3 c))) (p (a-of n 3 c)))) (lt-T _ _ (subst (λ (z : ℕ). z < m) (sym (b′ (b-of n 3 c))) (r (b-of n 3 c)))))
+      (T-and _ _ (lt-T _ _ (subst (λ (z : ℕ). z < m) (sym (a′ (a-of n 3 c))) (p (a-of n 3 c)))) (lt-T _ _ (subst (λ (z : ℕ). z < m) (sym (b′ (b-of n 3 c))) (r (b-of n 3 c)))))
   rename-shape q i m (steps c a b) p r =
       subst (λ (k : ℕ). T (fits q m (rename to n .a) (rename to n .b) k)) (sym c)
-        (T-and _ _ (lt-T _ _ (subst (λ (z : ℕ). z < m) (sym (a′ (a-of n 5 c))) (p (a-of n 5 c)))) (eq-T _ _ (b-kept (b-of n 5 c) ∙ b)))
+      (T-and _ _ (lt-T _ _ (subst (λ (z : ℕ). z < m) (sym (a′ (a-of n 5 c))) (p (a-of n 5 c)))) (eq-T _ _ (b-kept (b-of n 5 c) ∙ b)))
 
   pub rename-fits : (q i m : ℕ) → T (nextNode q i n) → (usesA n ≡ true → getD to (n .a) 0 < m) → (usesB n ≡ true → getD to (n .b) 0 < m) → T (nextNode q m (rename to n))
   rename-fits q i m h p r = rename-shape q i m (shape q i n h) p r

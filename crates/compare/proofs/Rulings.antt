@@ -70,8 +70,9 @@ Fresh a b k = (j : ℕ) → j < k → T (not (closed a b j))
 
 pub fresh-more : (a b : Kripke) (k : ℕ) → Fresh a b k → closed a b k ≡ false → Fresh a b (suc k)
 fresh-more a b k h e j l = elim (ℕ-discrete j k) [
-    yes z ↦ subst (λ (i : ℕ). T (not (closed a b i))) (sym z) (T-not _ (no-T _ e))
-  | no z ↦ h j (omega arith) ]
+  | yes z ↦ subst (λ (i : ℕ). T (not (closed a b i))) (sym z) (T-not _ (no-T _ e))
+  | no z ↦ h j (omega arith)
+]
 
 pub fresh-closed : (a b : Kripke) (k : ℕ) → Fresh a b k → (j : ℕ) → j < k → ClosedAfter a b j → ⊥
 fresh-closed a b k h j l z = not-T _ (h j l) (closed-to a b j z)
@@ -93,17 +94,21 @@ module _ (q : ℕ) (a b : Kripke) (la : Lawful q a) (lb : Lawful q b) where
       let z = different-separated q a b la lb k (first-different k h e) (different-T a b k e) .0 in
       let x : Apart a b (a .initial) (b .initial) = (z .0, z .3) in
       record {
-        rounds = refl; soon = fresh-soon k h;
+        rounds = refl;
+        soon = fresh-soon k h;
         alike = (λ w. absurd (let y : _≡_ {A = ℕ} 0 1 = cc in omega arith), λ w. absurd (w x));
-        different = (λ w. x, λ w. refl) }
+        different = (λ w. x, λ w. refl);
+      }
 
   pub decides-alike : (k : ℕ) → Fresh a b k → level a b k ≡ true → rested a b k ≡ true → Decides a b k (record { rounds = k; outcome = Alike })
   decides-alike k h e r =
       let x : Apart a b (a .initial) (b .initial) → ⊥ = alike-agree q a b la lb k (alike-T a b k e r) in
       record {
-        rounds = refl; soon = fresh-soon k h;
+        rounds = refl;
+        soon = fresh-soon k h;
         alike = (λ w. x, λ w. refl);
-        different = (λ w. absurd (let y : _≡_ {A = ℕ} 0 1 = cc in omega arith), λ w. absurd (x w)) }
+        different = (λ w. absurd (let y : _≡_ {A = ℕ} 0 1 = cc in omega arith), λ w. absurd (x w));
+      }
 
   -- A closed comparison's verdict, by the test of the initial states.
   pub decides : (k : ℕ) → Fresh a b k → closed a b k ≡ true → (d : Bool) (o : Outcome) → d ≡ not (level a b k) → o ≡ cond d Different Alike
@@ -135,8 +140,10 @@ module _ (a b : Kripke) (k : ℕ) where
   pub verdict-refused : closed a b k ≡ false
       → First (VerdictBreach a b k) layer.Comparison (record { cause = OpenComparison; layer = layer.Comparison; place = k })
   verdict-refused e = record {
-      broken = unclosed (λ z. no-T (closed a b k) e (closed-to a b k z));
-      least = verdict-least; layered = refl }
+    broken = unclosed (λ z. no-T (closed a b k) e (closed-to a b k z));
+    least = verdict-least;
+    layered = refl;
+  }
 
   pub verdict-clean : ClosedAfter a b k → Clean (VerdictBreach a b k)
   verdict-clean c _ _ (unclosed z) = z c

@@ -67,15 +67,15 @@ module _ (c : Comparison) (e : level (first c) (second c) (rounds c) ≡ false) 
   here : Holds (first c) (root (table c)) (first c .initial)
   here = first-of (first c) (second c) (λ k s. Holds k (root (table c)) s) (first c .initial) (first-lawful (c .stages) .begins)
       (both-holds (first c) (second c) (first-lawful (c .stages) .closed) (second-lawful (c .stages) .closed) (root (table c)) (first c .initial) one-in .1
-        (whole (first c .initial) one-in .0 (and-T _ _ tested .0)))
+      (whole (first c .initial) one-in .0 (and-T _ _ tested .0)))
 
   there : Holds (second c) (root (table c)) (second c .initial) → ⊥
   there h =
       let j : ℕ = size (first c) + second c .initial in
       let z : size (first c) + second c .initial - size (first c) ≡ second c .initial = omega arith in
       not-T _ (and-T _ _ tested .1) (whole j other-in .1
-        (both-holds (first c) (second c) (first-lawful (c .stages) .closed) (second-lawful (c .stages) .closed) (root (table c)) j other-in .0
-          (second-to (first c) (second c) (λ k s. Holds k (root (table c)) s) j (omega arith) (subst (λ (s : ℕ). Holds (second c) (root (table c)) s) (sym z) h))))
+      (both-holds (first c) (second c) (first-lawful (c .stages) .closed) (second-lawful (c .stages) .closed) (root (table c)) j other-in .0
+      (second-to (first c) (second c) (λ k s. Holds k (root (table c)) s) j (omega arith) (subst (λ (s : ℕ). Holds (second c) (root (table c)) s) (sym z) h))))
 
   least : (f : Formula) → NextOnly f → Separates (first c) (second c) (first c .initial) (second c .initial) f → rounds c ≤ nesting f
   least = different-separated (questions c) (first c) (second c) (first-lawful (c .stages)) (second-lawful (c .stages)) (rounds c)
@@ -83,9 +83,13 @@ module _ (c : Comparison) (e : level (first c) (second c) (rounds c) ≡ false) 
 
   pub separating : Separating (first c) (second c) (questions c) (rounds c) (table c)
   separating = record {
-      some = some; few = c .few;
-      well-formed = well-formed (questions c) (table c) (c .orderly);
-      next-only = λ i l. coded (questions c) i (getD (table c) i blank) (shape (questions c) i (getD (table c) i blank) (c .orderly i l));
-      useful = c .useful;
-      nests = omega (arith, shallow, least (root (table c)) plain (inl (here, there)));
-      here = here; there = there; least = least }
+    some = some;
+    few = c .few;
+    well-formed = well-formed (questions c) (table c) (c .orderly);
+    next-only = λ i l. coded (questions c) i (getD (table c) i blank) (shape (questions c) i (getD (table c) i blank) (c .orderly i l));
+    useful = c .useful;
+    nests = omega (arith, shallow, least (root (table c)) plain (inl (here, there)));
+    here = here;
+    there = there;
+    least = least;
+  }

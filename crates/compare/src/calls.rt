@@ -29,19 +29,31 @@ use std::alloc::Global;
 pub(crate) fn refusal(cause: Cause, place: usize) -> Refusal
     ensures { λ r. ⌜ r ≡ record { cause = cause; layer = layer.Comparison; place = place } ⌝ }
 {
-    Refusal { cause, layer: Layer::Comparison, place }
+    Refusal {
+        cause,
+        layer: Layer::Comparison,
+        place,
+    }
 }
 
 // The outcome, by whether the initial states differ.
 fn outcome(different: bool) -> Outcome
     ensures { λ r. ⌜ r ≡ cond different Outcome.Different Outcome.Alike ⌝ }
 {
-    if different { Outcome::Different } else { Outcome::Alike }
+    if different {
+        Outcome::Different
+    } else {
+        Outcome::Alike
+    }
 }
 
 impl Comparison {
     // Opens the comparison of two models of one label kind. It refuses nothing: want of memory is its only error.
-    pub fn open<L: Label, M: Model<Label = L>, N: Model<Label = L>>(heap: Global, first: &M, second: &N) -> Result<Comparison, AllocError>
+    pub fn open<L: Label, M: Model<Label = L>, N: Model<Label = L>>(
+        heap: Global,
+        first: &M,
+        second: &N,
+    ) -> Result<Comparison, AllocError>
         ensures { λ r. ⌜ made r (λ c. Opened (L·Label .count) (M·Model .meaning (now (first .entry))) (N·Model .meaning (now (second .entry))) c) ⌝ }
     {
         let stages = Refinement::open(heap, first, second)?;
@@ -124,7 +136,10 @@ impl Comparison {
         requires { ⌜ closed (first (now self)) (second (now self)) (rounds (now self)) ≡ true ⌝ }
         ensures { λ v. ⌜ Decides (first (now (self .entry))) (second (now (self .entry))) (rounds (now (self .entry))) v ⌝ }
     {
-        Verdict { rounds: self.stages.rounds, outcome: outcome(differs(&self.stages)) }
+        Verdict {
+            rounds: self.stages.rounds,
+            outcome: outcome(differs(&self.stages)),
+        }
     }
 
     // Alike or different, after how many rounds. Refused while the comparison is open.

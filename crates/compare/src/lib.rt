@@ -1,11 +1,10 @@
 // The comparison of two models: opening, rounds and readings, and any list of requests.
 
-pub mod comparison;
-pub mod requests;
-pub mod verdict;
-
 mod calls;
+pub mod comparison;
 mod prune;
 mod reading;
+pub mod requests;
 mod running;
 mod telling;
+pub mod verdict;

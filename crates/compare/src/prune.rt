@@ -11,7 +11,9 @@ use refine::partition::Partition;
 
 // The codes of true, a question and `and`.
 const TRUTH: u8 = 0;
+
 const QUESTION: u8 = 1;
+
 const AND: u8 = 3;
 
 fn uses_a(n: Node) -> bool
@@ -49,7 +51,11 @@ fn renamed(n: Node, to: &[u16; 2048]) -> Node
     requires b { ⌜ (usesB n ≡ true → n .b < 2048) ⌝ }
     ensures { λ r. ⌜ r ≡ rename (now (to .entry)) n ⌝ }
 {
-    Node { code: n.code, a: place(uses_a(n), n.a, to), b: place(uses_b(n), n.b, to) }
+    Node {
+        code: n.code,
+        a: place(uses_a(n), n.a, to),
+        b: place(uses_b(n), n.b, to),
+    }
 }
 
 // Which nodes the root reaches. What a node names is earlier, so one way down does.

@@ -8,7 +8,42 @@ use std::test::*;
 
 // Two signal-word states: 0 with word 0 leads to itself and to 1, which has word 1 and leads to itself.
 const WAITS: [u8; 36] = [
-    1, 0, 2, 0, 3, 0, 0, 0, 0, 0, 0, 0, 1, 0, 0, 0, 1, 0, 0, 0, 3, 0, 0, 0, 0, 0, 2, 0, 1, 0, 0, 0, 1, 0, 0, 0,
+    1,
+    0,
+    2,
+    0,
+    3,
+    0,
+    0,
+    0,
+    0,
+    0,
+    0,
+    0,
+    1,
+    0,
+    0,
+    0,
+    1,
+    0,
+    0,
+    0,
+    3,
+    0,
+    0,
+    0,
+    0,
+    0,
+    2,
+    0,
+    1,
+    0,
+    0,
+    0,
+    1,
+    0,
+    0,
+    0,
 ];
 
 // One reading whose limits do not rise.
@@ -59,7 +94,12 @@ fn checks(rt: LibcRuntime) -> Result<(), Fail> {
 #[test]
 fn rules(rt: LibcRuntime) -> Result<(), Fail> {
     let heap = rt.alloc();
-    let turn = [Rule { care: 1, need: 0, set: 1, clear: 0 }];
+    let turn = [Rule {
+        care: 1,
+        need: 0,
+        set: 1,
+        clear: 0,
+    }];
     answers(
         on_rules(heap, 1, 0, &turn, Task::List, ""),
         "rules on signal words, 2 states, initial state 0\nstate 0: -> 1\nstate 1: q0 -> 1\n",

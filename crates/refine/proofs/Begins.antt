@@ -77,15 +77,20 @@ pub asking-more : (u : Kripke) (p q r : Partition) (i : ℕ) (row : List Bool) �
 asking-more u p q r i row h rows d =
     record {
       keeps = keeps-trans p q r (h .keeps) (d .keeps);
-      classes = λ s t hs ht.
-        ( λ e. let a = d .classes s t (to s hs) (to t ht) .0 e in let b = h .classes s t hs ht .0 (a .0) in
-            (b .0, λ j l. elim (ℕ-discrete j i) [
-                yes z ↦ subst (λ (v : ℕ). answer u s v ≡ answer u t v) (sym z) (sym (rows s hs) ∙ a .1 ∙ rows t ht)
-              | no z ↦ b .1 j (omega arith) ])
-        , λ e. d .classes s t (to s hs) (to t ht) .1
-            (h .classes s t hs ht .1 (e .0, λ j l. e .1 j (omega arith)), rows s hs ∙ e .1 i (omega arith) ∙ sym (rows t ht)) );
+      classes = λ s t hs ht. (
+        λ e. let a = d .classes s t (to s hs) (to t ht) .0 e in let b = h .classes s t hs ht .0 (a .0) in (
+          b .0,
+          λ j l. elim (ℕ-discrete j i) [
+            | yes z ↦ subst (λ (v : ℕ). answer u s v ≡ answer u t v) (sym z) (sym (rows s hs) ∙ a .1 ∙ rows t ht)
+            | no z ↦ b .1 j (omega arith)
+          ],
+        ),
+        λ e. d .classes s t (to s hs) (to t ht) .1
+            (h .classes s t hs ht .1 (e .0, λ j l. e .1 j (omega arith)), rows s hs ∙ e .1 i (omega arith) ∙ sym (rows t ht)),
+      );
       exact = λ old. d .exact (test u) (test-boolean u) (λ t l. sym (rows t (omega (arith, l, h .keeps .states)))) (h .exact old);
-      shallow = λ e old. d .shallow e (omega arith) (h .shallow e old) }
+      shallow = λ e old. d .shallow e (omega arith) (h .shallow e old);
+    }
   where
     to : (s : ℕ) → s < p .states → s < q .states
     to s k = omega (arith, k, h .keeps .states)

@@ -53,14 +53,16 @@ module _ (p q : Partition) (test : Node) (x : ℕ) (st : Started p q test x) whe
   start-stands : (v : Formula → ℕ → Bool) → Boolean v → (row : List Bool)
       → ((t : ℕ) → t < p .states → v (made (formulas (vec-items (p .nodes))) test) t ≡ at row t) → Stands v q x row
   start-stands v w row h = record {
-      yes = λ t l. ap (λ (f : Formula). v f t) (st .begun .yes) ∙ h t (omega (arith, st .states, l));
-      no = λ t l. ap (λ (f : Formula). v f t) (st .begun .no) ∙ w .negates (made (formulas (vec-items (p .nodes))) test) t ∙ ap not (h t (omega (arith, st .states, l))) }
+    yes = λ t l. ap (λ (f : Formula). v f t) (st .begun .yes) ∙ h t (omega (arith, st .states, l));
+    no = λ t l. ap (λ (f : Formula). v f t) (st .begun .no) ∙ w .negates (made (formulas (vec-items (p .nodes))) test) t ∙ ap not (h t (omega (arith, st .states, l)));
+  }
 
   pub start-odd : (s : ℕ) (row : List Bool) → Odd p s row → Odd q s row
   start-odd s row o = record {
-      state = omega (arith, st .states, o .state);
-      odd = ap (λ (c : ℕ). Bool·beq (at row c) (at row s)) (same-class s) ∙ o .odd;
-      first = λ t l. ap (λ (c : ℕ). at row c) (same-class t) ∙ o .first t l }
+    state = omega (arith, st .states, o .state);
+    odd = ap (λ (c : ℕ). Bool·beq (at row c) (at row s)) (same-class s) ∙ o .odd;
+    first = λ t l. ap (λ (c : ℕ). at row c) (same-class t) ∙ o .first t l;
+  }
 
   module _ (r : Partition) (s : ℕ) (row : List Bool) (o : Odd p s row) (d : Parted q r x s row) where
     pub start-scanned : Scanned q r x row (s + 1)
@@ -76,10 +78,14 @@ module _ (p q : Partition) (test : Node) (x : ℕ) (st : Started p q test x) whe
         let on : (t : ℕ) → t < p .states → t < q .states = λ t l. omega (arith, l, st .states) in
         record {
           keeps = keeps-trans p q z start-keeps (h .keeps);
-          classes = λ s t hs ht.
-            ( λ a. ( sym (same-class s) ∙ h .finer s t (on s hs) (on t ht) a ∙ same-class t
-                   , sym (h .sorted s (omega (arith, e, hs))) ∙ ap (λ (c : ℕ). at row c) a ∙ h .sorted t (omega (arith, e, ht)) )
-            , λ a. h .kept s t (on s hs) (on t ht) (same-class s ∙ a .0 ∙ sym (same-class t)) (a .1) );
+          classes = λ s t hs ht. (
+            λ a. (
+              sym (same-class s) ∙ h .finer s t (on s hs) (on t ht) a ∙ same-class t,
+              sym (h .sorted s (omega (arith, e, hs))) ∙ ap (λ (c : ℕ). at row c) a ∙ h .sorted t (omega (arith, e, ht)),
+            ),
+            λ a. h .kept s t (on s hs) (on t ht) (same-class s ∙ a .0 ∙ sym (same-class t)) (a .1),
+          );
           exact = λ v w g old. h .exact v w (start-stands v w row g) (start-exact v old);
           shallow = λ e g old. h .shallow e (subst (λ (f : Formula). nesting f ≤ e) (sym (st .begun .yes)) g)
-              (subst (λ (f : Formula). nesting f ≤ e) (sym (st .begun .no)) g) (start-shallow e old) }
+              (subst (λ (f : Formula). nesting f ≤ e) (sym (st .begun .no)) g) (start-shallow e old);
+        }

@@ -41,17 +41,22 @@ begun ns m1 ms test x l e1 e2 =
       inside = omega (arith, l, l1, l2);
       yes = x2 .same x (omega (arith, l, l1)) ∙ push-new ns m1 test x e1 l;
       no = push-new m1 ms n2 (suc x) e2 (omega (arith, l, l1)) ∙ ap Formula.not (push-new ns m1 test x e1 l);
-      orderly = λ q f h. orderly-push q m1 ms n2 e2 (orderly-push q ns m1 test e1 h f) (T-and _ _ (lt-T x (length m1) (omega (arith, l, l1))) tt) }
+      orderly = λ q f h. orderly-push q m1 ms n2 e2 (orderly-push q ns m1 test e1 h f) (T-and _ _ (lt-T x (length m1) (omega (arith, l, l1))) tt);
+    }
 
 -- Where a is `true`, the conjunction is b.
 pub conjoined-true : (ns : List Node) (a b : ℕ) → a < length ns → b < length ns → getD ns a blank .code ≡ 0 → Conjoined ns ns a b b
 conjoined-true ns a b la lb e =
     record {
-      extends = extends-refl ns; count = omega arith; inside = lb; orderly = λ q h. h;
+      extends = extends-refl ns;
+      count = omega arith;
+      inside = lb;
+      orderly = λ q h. h;
       means = λ q h v w s.
-        (let t : formula ns a ≡ truth = node-is q ns h a la ∙ made-at (formulas ns) (getD ns a blank) 0 e in
-         sym (ap (λ (f : Formula). v f s && v (formula ns b) s) t ∙ ap (λ z. z && v (formula ns b) s) (w .always s)));
-      nests = λ d p r. r }
+          (let t : formula ns a ≡ truth = node-is q ns h a la ∙ made-at (formulas ns) (getD ns a blank) 0 e in
+          sym (ap (λ (f : Formula). v f s && v (formula ns b) s) t ∙ ap (λ z. z && v (formula ns b) s) (w .always s)));
+      nests = λ d p r. r;
+    }
 
 pub conjoined-new : (ns ms : List Node) (a b r : ℕ) → a < length ns → b < length ns → length ns ≡ r → ms ≡ ns ++ record { code = 3; a = a; b = b } ∷ [] → Conjoined ns ms a b r
 conjoined-new ns ms a b r la lb l e =
@@ -64,4 +69,5 @@ conjoined-new ns ms a b r la lb l e =
       inside = omega (arith, l, long);
       orderly = λ q h. orderly-push q ns ms n e h (T-and _ _ (lt-T a (length ns) la) (lt-T b (length ns) lb));
       means = λ q h v w s. ap (λ (f : Formula). v f s) is ∙ w .joins (formula ns a) (formula ns b) s;
-      nests = λ d p k. subst (λ (f : Formula). nesting f ≤ d) (sym is) (omega (arith, p, k)) }
+      nests = λ d p k. subst (λ (f : Formula). nesting f ≤ d) (sym is) (omega (arith, p, k));
+    }

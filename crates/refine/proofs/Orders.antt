@@ -47,7 +47,7 @@ shape q i n h = go (eqb (n .code) 0) (eqb (n .code) 1) (eqb (n .code) 2) (eqb (n
   where
     go : (c0 c1 c2 c3 c5 : Bool) → eqb (n .code) 0 ≡ c0 → eqb (n .code) 1 ≡ c1 → eqb (n .code) 2 ≡ c2 → eqb (n .code) 3 ≡ c3 → eqb (n .code) 5 ≡ c5
         → T (cond c0 (eqb (n .a) 0 && eqb (n .b) 0) (cond c1 (ltb (n .a) q && eqb (n .b) 0) (cond c2 (ltb (n .a) i && eqb (n .b) 0)
-            (cond c3 (ltb (n .a) i && ltb (n .b) i) (cond c5 (ltb (n .a) i && eqb (n .b) 0) false))))) → Shape q i n
+        (cond c3 (ltb (n .a) i && ltb (n .b) i) (cond c5 (ltb (n .a) i && eqb (n .b) 0) false))))) → Shape q i n
     go true c1 c2 c3 c5 e0 e1 e2 e3 e5 h = let p = and-T _ _ h in always (eqb-true _ _ e0) (T-eq _ _ (p .0)) (T-eq _ _ (p .1))
     go false true c2 c3 c5 e0 e1 e2 e3 e5 h = let p = and-T _ _ h in asks (eqb-true _ _ e1) (T-lt _ _ (p .0)) (T-eq _ _ (p .1))
     go false false true c3 c5 e0 e1 e2 e3 e5 h = let p = and-T _ _ h in denies (eqb-true _ _ e2) (T-lt _ _ (p .0)) (T-eq _ _ (p .1))
@@ -93,8 +93,8 @@ orderly-push q ns ms n e h f = subst (λ (z : List Node). Orderly q z) (sym e) g
   where
     go : Orderly q (ns ++ n ∷ [])
     go i l = elim (ℕ-discrete i (length ns)) [
-        yes z ↦ (let a : getD (ns ++ n ∷ []) i blank ≡ n = getD-push ns n blank i (sym z) in
-                 subst (λ (m : Node). T (nextNode q i m)) (sym a) (subst (λ (j : ℕ). T (nextNode q j n)) (sym z) f))
+      | yes z ↦ (let a : getD (ns ++ n ∷ []) i blank ≡ n = getD-push ns n blank i (sym z) in
+          subst (λ (m : Node). T (nextNode q i m)) (sym a) (subst (λ (j : ℕ). T (nextNode q j n)) (sym z) f))
       | no d ↦ (let b : i < length ns = omega (arith, length-push ns n) in
-                subst (λ (m : Node). T (nextNode q i m)) (sym (getD-append-left ns (n ∷ []) blank i b)) (h i b))
-      ]
+          subst (λ (m : Node). T (nextNode q i m)) (sym (getD-append-left ns (n ∷ []) blank i b)) (h i b))
+    ]

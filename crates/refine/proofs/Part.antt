@@ -76,13 +76,36 @@ abbrev pub cut : (p : Partition) (s x : ℕ) (row : List Bool) → Odd p s row �
     → (new : List ℕ) → ((t : ℕ) → t < p .states → getD new t 0 ≡ moved (p .class) row (getD (p .class) s 0) s t) → Cut
 cut p s x row o inside fit stays leaves stays-is leaves-is m1 ms stay leave j1 j2 new is =
     record {
-      q = p .questions; n = p .states; cl = p .class; nd = p .node; ns = vec-items (p .nodes);
-      low = p .low; led = p .led; here = p .here; ordered = p .orderly;
-      row = row; x = x; s = s; state = o .state; fit = fit; odd = o .odd; first = o .first; inside = inside;
-      stays = stays; leaves = leaves;
+      q = p .questions;
+      n = p .states;
+      cl = p .class;
+      nd = p .node;
+      ns = vec-items (p .nodes);
+      low = p .low;
+      led = p .led;
+      here = p .here;
+      ordered = p .orderly;
+      row = row;
+      x = x;
+      s = s;
+      state = o .state;
+      fit = fit;
+      odd = o .odd;
+      first = o .first;
+      inside = inside;
+      stays = stays;
+      leaves = leaves;
       stays-is = stays-is ∙ ap (λ z. cond (at row s) z x) (add-one x);
       leaves-is = leaves-is ∙ ap (λ z. cond (at row s) x z) (add-one x);
-      m1 = m1; ms = ms; stay = stay; leave = leave; stay-made = j1; leave-made = j2; new = new; is = is }
+      m1 = m1;
+      ms = ms;
+      stay = stay;
+      leave = leave;
+      stay-made = j1;
+      leave-made = j2;
+      new = new;
+      is = is;
+    }
 
 module _ (k : Cut) where
   abbrev c : ℕ
@@ -165,16 +188,17 @@ module _ (k : Cut) where
   part-shallow d py pn old = each-after (k .n) (of (k .cl)) (of (k .new)) y c (k .s) (k .low) (k .led) (k .state) refl y0 (k .odd) first′ (k .is)
       (λ e. nesting (formula (k .ms) (getD nd′ e 0)) ≤ d)
       (subst (λ (i : ℕ). nesting (formula (k .ms) i) ≤ d) (sym node-c) (subst (λ (f : Formula). nesting f ≤ d) (sym stay-same)
-          (k .stay-made .nests d (old (k .s) (k .state)) (go-stay (at (k .row) (k .s)) (k .stays-is)))))
+      (k .stay-made .nests d (old (k .s) (k .state)) (go-stay (at (k .row) (k .s)) (k .stays-is)))))
       (subst (λ (i : ℕ). nesting (formula (k .ms) i) ≤ d) (sym node-s)
-          (k .leave-made .nests d
-            (subst (λ (f : Formula). nesting f ≤ d) (sym (k .stay-made .extends .same (getD (k .nd) c 0) whole-in)) (old (k .s) (k .state)))
-            (subst (λ (f : Formula). nesting f ≤ d) (sym (k .stay-made .extends .same (k .leaves) leaves-in)) (go-leave (at (k .row) (k .s)) (k .leaves-is)))))
+      (k .leave-made .nests d
+      (subst (λ (f : Formula). nesting f ≤ d) (sym (k .stay-made .extends .same (getD (k .nd) c 0) whole-in)) (old (k .s) (k .state)))
+      (subst (λ (f : Formula). nesting f ≤ d) (sym (k .stay-made .extends .same (k .leaves) leaves-in)) (go-leave (at (k .row) (k .s)) (k .leaves-is)))))
       (λ t h p q. subst (λ (f : Formula). nesting f ≤ d) (sym (same-formula t h p q)) (old t h))
     where
       go-stay : (b : Bool) → k .stays ≡ cond b (suc (k .x)) (k .x) → nesting (formula (k .ns) (k .stays)) ≤ d
       go-stay true e = subst (λ (i : ℕ). nesting (formula (k .ns) i) ≤ d) (sym e) pn
       go-stay false e = subst (λ (i : ℕ). nesting (formula (k .ns) i) ≤ d) (sym e) py
+
       go-leave : (b : Bool) → k .leaves ≡ cond b (k .x) (suc (k .x)) → nesting (formula (k .ns) (k .leaves)) ≤ d
       go-leave true e = subst (λ (i : ℕ). nesting (formula (k .ns) i) ≤ d) (sym e) py
       go-leave false e = subst (λ (i : ℕ). nesting (formula (k .ns) i) ≤ d) (sym e) pn
@@ -182,7 +206,6 @@ module _ (k : Cut) where
   module _ (v : Formula → ℕ → Bool) (w : Boolean v)
       (ys : (t : ℕ) → t < k .n → v (formula (k .ns) (k .x)) t ≡ at (k .row) t)
       (ns′ : (t : ℕ) → t < k .n → v (formula (k .ns) (suc (k .x))) t ≡ not (at (k .row) t)) where
-
     leaves-y : (t : ℕ) → t < k .n → v (formula (k .ns) (k .leaves)) t ≡ y t
     leaves-y t h = go (at (k .row) (k .s)) (k .leaves-is)
       where

@@ -57,25 +57,39 @@ module _ (u : Kripke) (p q : Partition) (i : ℕ) (h : Refining u p q i) (c name
         finer = λ s t hs ht e. h .finer s t hs ht (d .classes s t (to s hs) (to t ht) .0 e .0);
         kept = λ s t hs ht e k. d .classes s t (to s hs) (to t ht) .1 (h .kept s t hs ht e k, rows s hs ∙ k c cn lead ∙ sym (rows t ht));
         parted = λ b s t lb leadb hs ht e. elim (ℕ-discrete b c) [
-            yes z ↦ subst (λ (v : ℕ). hits u (p .class) v s ≡ hits u (p .class) v t) (sym z) (sym (rows s hs) ∙ d .classes s t (to s hs) (to t ht) .0 e .1 ∙ rows t ht)
-          | no z ↦ h .parted b s t (omega (arith, ci)) leadb hs ht (d .classes s t (to s hs) (to t ht) .0 e .0) ];
+          | yes z ↦ subst (λ (v : ℕ). hits u (p .class) v s ≡ hits u (p .class) v t) (sym z) (sym (rows s hs) ∙ d .classes s t (to s hs) (to t ht) .0 e .1 ∙ rows t ht)
+          | no z ↦ h .parted b s t (omega (arith, ci)) leadb hs ht (d .classes s t (to s hs) (to t ht) .0 e .0)
+        ];
         exact = λ old. d .exact (test u) (test-boolean u) (λ t l. let l′ : t < p .states = omega (arith, l, h .keeps .states) in ex-tests inside old t l′ ∙ sym (rows t l′)) (h .exact old);
-        shallow = λ e old. d .shallow (suc e) (ex-shallow e old) (h .shallow e old) }
+        shallow = λ e old. d .shallow (suc e) (ex-shallow e old) (h .shallow e old);
+      }
     where
       to : (s : ℕ) → s < p .states → s < q .states
       to s k = omega (arith, k, h .keeps .states)
 
 pub refining-none : (u : Kripke) (p : Partition) → Refining u p p 0
 refining-none u p = record {
-    keeps = keeps-refl p; finer = λ s t hs ht e. e; kept = λ s t hs ht e k. e; parted = λ c s t l. absurd (omega arith);
-    exact = λ old. old; shallow = λ d old t l. omega (arith, old t l) }
+  keeps = keeps-refl p;
+  finer = λ s t hs ht e. e;
+  kept = λ s t hs ht e k. e;
+  parted = λ c s t l. absurd (omega arith);
+  exact = λ old. old;
+  shallow = λ d old t l. omega (arith, old t l);
+}
 
 pub refining-skip : (u : Kripke) (p q : Partition) (i : ℕ) → Refining u p q i → (class-of p i ≡ i → ⊥) → Refining u p q (i + 1)
 refining-skip u p q i h d =
-    record { keeps = h .keeps; finer = h .finer; kept = h .kept; exact = h .exact; shallow = h .shallow;
+    record {
+      keeps = h .keeps;
+      finer = h .finer;
+      kept = h .kept;
+      exact = h .exact;
+      shallow = h .shallow;
       parted = λ c s t l lead hs ht e. elim (ℕ-discrete c i) [
-          yes z ↦ absurd (d (subst (λ (v : ℕ). class-of p v ≡ v) z lead))
-        | no z ↦ h .parted c s t (omega arith) lead hs ht e ] }
+        | yes z ↦ absurd (d (subst (λ (v : ℕ). class-of p v ≡ v) z lead))
+        | no z ↦ h .parted c s t (omega arith) lead hs ht e
+      ];
+    }
 
 -- Split by every class, two states are in one class where each successor of either has a successor of the other in its class.
 pub inside-both : (a b : Kripke) → Closed a → Closed b → (p : Partition) → p .states ≡ total a b
@@ -102,11 +116,14 @@ module _ (a b : Kripke) (la : Closed a) (lb : Closed b) (p q : Partition) (long 
   pub refined : Refined a b (p .class) (q .class)
   refined x y hx hy =
       let kx : x < p .states = omega (arith, long, hx) in
-      let ky : y < p .states = omega (arith, long, hy) in
-      ( λ e. ( h .finer x y kx ky e
-             , (λ v m. let r = mate x y kx ky e v m in (r .0, r .1, sym (r .2)))
-             , (λ w m. mate y x ky kx (sym e) w m) )
-      , λ e. h .kept x y kx ky (e .0) (λ c cn lead. bools _ _ (over c x y (e .1)) (over c y x (λ v m. let g = e .2 v m in (g .0, g .1, sym (g .2))))) )
+      let ky : y < p .states = omega (arith, long, hy) in (
+        λ e. (
+          h .finer x y kx ky e,
+          (λ v m. let r = mate x y kx ky e v m in (r .0, r .1, sym (r .2))),
+          (λ w m. mate y x ky kx (sym e) w m),
+        ),
+        λ e. h .kept x y kx ky (e .0) (λ c cn lead. bools _ _ (over c x y (e .1)) (over c y x (λ v m. let g = e .2 v m in (g .0, g .1, sym (g .2))))),
+      )
 
   pub rounded : Rounded a b (both a b) p q
   rounded = record { keeps = h .keeps; refined = refined; exact = h .exact; shallow = h .shallow }

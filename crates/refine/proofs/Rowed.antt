@@ -32,12 +32,16 @@ pub table-lawful : (t : Table) → Lawful (t .questions) (structure-of t)
 table-lawful t =
     let e : size (structure-of t) ≡ length (vec-items (t .rows)) = row-size (t .initial) (vec-items (t .rows)) in
     record {
-      some = omega (arith, e, t .some); few = omega (arith, e, t .few); begins = omega (arith, e, t .begins);
+      some = omega (arith, e, t .some);
+      few = omega (arith, e, t .few);
+      begins = omega (arith, e, t .begins);
       answered = λ s h. t .answered s (omega (arith, e, h));
       closed = record {
         onward = λ s h. t .onward s (omega (arith, e, h));
-        inside = λ s v h m. omega (arith, e, t .inside s v (omega (arith, e, h)) m) };
-      narrow = λ s h. t .narrow s (omega (arith, e, h)) }
+        inside = λ s v h m. omega (arith, e, t .inside s v (omega (arith, e, h)) m);
+      };
+      narrow = λ s h. t .narrow s (omega (arith, e, h));
+    }
 
 -- What is asked of a numbered state of both structures is asked of its own.
 module _ (a b : Kripke) where

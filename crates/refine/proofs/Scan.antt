@@ -34,11 +34,14 @@ pub odd-fewer : (p : Partition) (s : ℕ) (row : List Bool) → Odd p s row → 
 unfolding leaders
 odd-fewer p s row o =
     let e : eqb (getD (p .class) s 0) s ≡ false = ne-eqb _ _ (λ z.
-          (let a : Bool·beq (at row s) (at row s) ≡ false = subst (λ (v : ℕ). Bool·beq (at row v) (at row s) ≡ false) z (o .odd) in
-           let b = beq-refl (at row s) in let w : _≡_ {A = ℕ} 0 1 = cc in omega arith)) in
+    (let a : Bool·beq (at row s) (at row s) ≡ false = subst (λ (v : ℕ). Bool·beq (at row v) (at row s) ≡ false) z (o .odd) in
+    let b = beq-refl (at row s) in let w : _≡_ {A = ℕ} 0 1 = cc in omega arith)) in
     let l : bit (eqb (getD (p .class) s 0) s) < 1 = rw e (omega arith) in
-    omega (arith, sum-ones (p .states),
-        sum-less (λ i. bit (eqb (getD (p .class) i 0) i)) (λ i. 1) (p .states) (λ i h. bit-le (eqb (getD (p .class) i 0) i)) s (o .state) l)
+    omega (
+      arith,
+      sum-ones (p .states),
+      sum-less (λ i. bit (eqb (getD (p .class) i 0) i)) (λ i. 1) (p .states) (λ i h. bit-le (eqb (getD (p .class) i 0) i)) s (o .state) l,
+    )
 
 pub room-left : (p : Partition) (s : ℕ) (row : List Bool) → Odd p s row → Few p → length (vec-items (p .nodes)) + 4 ≤ 2048
 room-left p s row o f = omega (arith, odd-fewer p s row o, f, p .few, p .counted)
@@ -48,17 +51,21 @@ keeps-refl p = record { states = refl; questions = refl; extends = extends-refl 
 
 pub keeps-trans : (p q r : Partition) → Keeps p q → Keeps q r → Keeps p r
 keeps-trans p q r h k =
-    record { states = k .states ∙ h .states; questions = k .questions ∙ h .questions;
+    record {
+      states = k .states ∙ h .states;
+      questions = k .questions ∙ h .questions;
       extends = extends-trans (vec-items (p .nodes)) (vec-items (q .nodes)) (vec-items (r .nodes)) (h .extends) (k .extends);
       more = omega (arith, h .more, k .more);
-      still = λ l. k .still (omega (arith, l, h .more)) ∙ h .still (omega (arith, l, k .more)) }
+      still = λ l. k .still (omega (arith, l, h .more)) ∙ h .still (omega (arith, l, k .more));
+    }
 
 -- A test stands in a table that has grown, nested no deeper.
 pub stands-on : (v : Formula → ℕ → Bool) (p q : Partition) (x : ℕ) (row : List Bool) → Keeps p q → suc x < length (vec-items (p .nodes)) → Stands v p x row → Stands v q x row
 stands-on v p q x row k l st =
     record {
       yes = λ t h. ap (λ (f : Formula). v f t) (k .extends .same x (omega arith)) ∙ st .yes t (omega (arith, h, k .states));
-      no = λ t h. ap (λ (f : Formula). v f t) (k .extends .same (suc x) l) ∙ st .no t (omega (arith, h, k .states)) }
+      no = λ t h. ap (λ (f : Formula). v f t) (k .extends .same (suc x) l) ∙ st .no t (omega (arith, h, k .states));
+    }
 
 pub nests-on : (d : ℕ) (p q : Partition) (x i : ℕ) → Keeps p q → i < length (vec-items (p .nodes)) → nesting (node-formula p i) ≤ d → nesting (node-formula q i) ≤ d
 nests-on d p q x i k l h = subst (λ (f : Formula). nesting f ≤ d) (sym (k .extends .same i l)) h
@@ -69,21 +76,32 @@ scanned-start p x row i h =
 
 pub scanned-skip : (p q : Partition) (x : ℕ) (row : List Bool) (i : ℕ) → Scanned p q x row i → Bool·beq (at row (class-of q i)) (at row i) ≡ true → Scanned p q x row (i + 1)
 scanned-skip p q x row i h e =
-    record { keeps = h .keeps; finer = h .finer; kept = h .kept; exact = h .exact; shallow = h .shallow;
+    record {
+      keeps = h .keeps;
+      finer = h .finer;
+      kept = h .kept;
+      exact = h .exact;
+      shallow = h .shallow;
       sorted = λ t l. elim (ℕ-discrete t i) [
-          yes z ↦ subst (λ (v : ℕ). at row (class-of q v) ≡ at row v) (sym z) (beq-eq _ _ e)
-        | no d ↦ h .sorted t (omega arith) ] }
+        | yes z ↦ subst (λ (v : ℕ). at row (class-of q v) ≡ at row v) (sym z) (beq-eq _ _ e)
+        | no d ↦ h .sorted t (omega arith)
+      ];
+    }
 
 module _ (p q r : Partition) (x : ℕ) (row : List Bool) (i : ℕ) (inside : suc x < length (vec-items (p .nodes)))
     (h : Scanned p q x row i) (o : Odd q i row) (d : Parted q r x i row) where
   abbrev n : ℕ
   n = q .states
+
   abbrev cl : ℕ → ℕ
   cl t = getD (q .class) t 0
+
   abbrev new : ℕ → ℕ
   new t = getD (r .class) t 0
+
   abbrev y : ℕ → Bool
   y t = Bool·beq (at row t) (at row i)
+
   abbrev c : ℕ
   c = getD (q .class) i 0
 
@@ -104,24 +122,29 @@ module _ (p q r : Partition) (x : ℕ) (row : List Bool) (i : ℕ) (inside : suc
 
   pub scanned-step : Scanned p r x row (i + 1)
   scanned-step =
-    record { keeps = keeps-trans p q r (h .keeps) (d .keeps);
-      finer = λ s t hs ht e. h .finer s t hs ht (one-before n cl new y c i (q .low) (q .led) (o .state) refl y0 (o .odd) first (d .class) s t (to s hs) (to t ht) e);
-      kept = λ s t hs ht e rr. one-after n cl new y c i (q .low) (q .led) (o .state) refl y0 (o .odd) first (d .class) s t (to s hs) (to t ht) (h .kept s t hs ht e rr)
-          (λ z. ap (λ b. Bool·beq b (at row i)) rr);
-      sorted = λ t l. elim (ℕ-discrete t i) [
-          yes z ↦ subst (λ (v : ℕ). at row (new v) ≡ at row v) (sym z) (ap (λ v. at row v) (new-s0 n cl new y c i (q .low) (q .led) (o .state) refl y0 (o .odd) first (d .class)))
-        | no e ↦ early t (omega arith) ];
-      exact = λ v w st old. d .exact v w (stands-on v p q x row (h .keeps) inside st) (h .exact v w st old);
-      shallow = λ e a b old. d .shallow e (nests-on e p q x x (h .keeps) (omega (arith, inside)) a) (nests-on e p q x (suc x) (h .keeps) inside b) (h .shallow e a b old) }
+      record {
+        keeps = keeps-trans p q r (h .keeps) (d .keeps);
+        finer = λ s t hs ht e. h .finer s t hs ht (one-before n cl new y c i (q .low) (q .led) (o .state) refl y0 (o .odd) first (d .class) s t (to s hs) (to t ht) e);
+        kept = λ s t hs ht e rr. one-after n cl new y c i (q .low) (q .led) (o .state) refl y0 (o .odd) first (d .class) s t (to s hs) (to t ht) (h .kept s t hs ht e rr)
+            (λ z. ap (λ b. Bool·beq b (at row i)) rr);
+        sorted = λ t l. elim (ℕ-discrete t i) [
+          | yes z ↦ subst (λ (v : ℕ). at row (new v) ≡ at row v) (sym z) (ap (λ v. at row v) (new-s0 n cl new y c i (q .low) (q .led) (o .state) refl y0 (o .odd) first (d .class)))
+          | no e ↦ early t (omega arith)
+        ];
+        exact = λ v w st old. d .exact v w (stands-on v p q x row (h .keeps) inside st) (h .exact v w st old);
+        shallow = λ e a b old. d .shallow e (nests-on e p q x x (h .keeps) (omega (arith, inside)) a) (nests-on e p q x (suc x) (h .keeps) inside b) (h .shallow e a b old);
+      }
 
 pub scanned-trans : (p q r : Partition) (x : ℕ) (row : List Bool) (i j : ℕ) → suc x < length (vec-items (p .nodes)) → Scanned p q x row i → Scanned q r x row j → Scanned p r x row j
 scanned-trans p q r x row i j inside h k =
-    record { keeps = keeps-trans p q r (h .keeps) (k .keeps);
+    record {
+      keeps = keeps-trans p q r (h .keeps) (k .keeps);
       finer = λ s t hs ht e. h .finer s t hs ht (k .finer s t (to s hs) (to t ht) e);
       kept = λ s t hs ht e rr. k .kept s t (to s hs) (to t ht) (h .kept s t hs ht e rr) rr;
       sorted = k .sorted;
       exact = λ v w st old. k .exact v w (stands-on v p q x row (h .keeps) inside st) (h .exact v w st old);
-      shallow = λ e a b old. k .shallow e (nests-on e p q x x (h .keeps) (omega (arith, inside)) a) (nests-on e p q x (suc x) (h .keeps) inside b) (h .shallow e a b old) }
+      shallow = λ e a b old. k .shallow e (nests-on e p q x x (h .keeps) (omega (arith, inside)) a) (nests-on e p q x (suc x) (h .keeps) inside b) (h .shallow e a b old);
+    }
   where
     to : (s : ℕ) → s < p .states → s < q .states
     to s l = omega (arith, l, h .keeps .states)

@@ -52,8 +52,8 @@ classes-counted a b k p long h =
     let low : Low (total a b) (p .class) = subst (λ (n : ℕ). Low n (p .class)) long (p .low) in
     let led : Led (total a b) (p .class) = subst (λ (n : ℕ). Led n (p .class)) long (p .led) in
     table-classes a b k (p .class) (λ i l. class-of a b k (p .class) h low led i l) (p .count) .0
-      (subst (λ (n : ℕ). Count (λ i. getD (p .class) i 0 ≡ i) n (p .count)) long
-        (subst (λ (c : ℕ). Count (λ i. getD (p .class) i 0 ≡ i) (p .states) c) (sym (p .counted)) (count-leaders (p .class) (p .states))))
+    (subst (λ (n : ℕ). Count (λ i. getD (p .class) i 0 ≡ i) n (p .count)) long
+    (subst (λ (c : ℕ). Count (λ i. getD (p .class) i 0 ≡ i) (p .states) c) (sym (p .counted)) (count-leaders (p .class) (p .states))))
 
 -- The opening.
 module _ (q : ℕ) (a b : Kripke) (la : Lawful q a) (lb : Lawful q b) where
@@ -61,9 +61,9 @@ module _ (q : ℕ) (a b : Kripke) (la : Lawful q a) (lb : Lawful q b) where
   long-answers i h = ⊎-elim
       (λ (l : i < size a). ap (λ (x : State). length (x .answers)) (both-first a b i l) ∙ la .answered i l)
       (λ (l : size a ≤ i).
-        let e : size a + (i - size a) ≡ i = omega arith in
-        ap (λ (j : ℕ). length (state (both a b) j .answers)) (sym e) ∙ ap (λ (x : State). length (x .answers)) (both-second a b (i - size a) (omega arith))
-        ∙ lb .answered (i - size a) (omega arith))
+      let e : size a + (i - size a) ≡ i = omega arith in
+      ap (λ (j : ℕ). length (state (both a b) j .answers)) (sym e) ∙ ap (λ (x : State). length (x .answers)) (both-second a b (i - size a) (omega arith))
+      ∙ lb .answered (i - size a) (omega arith))
       (cases-lt i (size a))
 
   past : (i j : ℕ) → i < total a b → q ≤ j → answer (both a b) i j ≡ false
@@ -72,9 +72,10 @@ module _ (q : ℕ) (a b : Kripke) (la : Lawful q a) (lb : Lawful q b) where
   pub opening-numbered : (s : ℕ) (o p : Partition) → s ≡ total a b → One s q o → Asking (both a b) o p q → Numbered a b 0 (p .class)
   opening-numbered s o p e one ask = opened-numbered a b (la .closed) (lb .closed) (p .class) (λ i j hi hj.
       let ki : i < o .states = omega (arith, hi, e, one .states-is) in
-      let kj : j < o .states = omega (arith, hj, e, one .states-is) in
-      ( λ al n. ⊎-elim (λ (l : n < q). ask .classes i j ki kj .0 al .1 n l) (λ (l : q ≤ n). past i n hi l ∙ sym (past j n hj l)) (cases-lt n q)
-      , λ ag. ask .classes i j ki kj .1 (one .class i ∙ sym (one .class j), λ n l. ag n) ))
+      let kj : j < o .states = omega (arith, hj, e, one .states-is) in (
+        λ al n. ⊎-elim (λ (l : n < q). ask .classes i j ki kj .0 al .1 n l) (λ (l : q ≤ n). past i n hi l ∙ sym (past j n hj l)) (cases-lt n q),
+        λ ag. ask .classes i j ki kj .1 (one .class i ∙ sym (one .class j), λ n l. ag n),
+      ))
 
 -- One round more.
 module _ (a b : Kripke) (la : Closed a) (lb : Closed b) (k : ℕ) (p r : Partition) (long : p .states ≡ total a b) (h : Numbered a b k (p .class)) (d : Rounded a b (both a b) p r) where
@@ -86,28 +87,31 @@ module _ (a b : Kripke) (la : Closed a) (lb : Closed b) (k : ℕ) (p r : Partiti
       let lp : getD (p .class) i 0 ≤ i = p .low i (omega (arith, long, l)) in
       let lr : getD (r .class) i 0 ≤ i = r .low i (omega (arith, long, l, d .keeps .states)) in
       let x : getD (r .class) i 0 ≤ getD (p .class) i 0 =
-          omega (arith, on i (getD (p .class) i 0) l (omega arith) (sym (p .led i (omega (arith, long, l)))), r .low (getD (p .class) i 0) (omega (arith, long, l, lp, d .keeps .states))) in
+      omega (arith, on i (getD (p .class) i 0) l (omega arith) (sym (p .led i (omega (arith, long, l)))), r .low (getD (p .class) i 0) (omega (arith, long, l, lp, d .keeps .states))) in
       let y : getD (p .class) i 0 ≤ getD (r .class) i 0 =
-          omega (arith, d .refined i (getD (r .class) i 0) l (omega arith) .0 (sym (r .led i (omega (arith, long, l, d .keeps .states)))) .0,
-            p .low (getD (r .class) i 0) (omega (arith, long, l, lr))) in
+      omega (
+        arith,
+        d .refined i (getD (r .class) i 0) l (omega arith) .0 (sym (r .led i (omega (arith, long, l, d .keeps .states)))) .0,
+        p .low (getD (r .class) i 0) (omega (arith, long, l, lr)),
+      ) in
       omega arith
 
   still-count : Settled a b k → r .count ≡ p .count
   unfolding leaders
   still-count st =
       let on : (i : ℕ) → i < total a b → getD (r .class) i 0 ≡ getD (p .class) i 0 = still-low (λ i j hi hj e.
-            numbered-to a b (suc k) (r .class) next-numbered i j hi hj .1 (st i j hi hj (numbered-to a b k (p .class) h i j hi hj .0 e))) in
+      numbered-to a b (suc k) (r .class) next-numbered i j hi hj .1 (st i j hi hj (numbered-to a b k (p .class) h i j hi hj .0 e))) in
       r .counted ∙ ap (λ (n : ℕ). sum (λ i. bit (eqb (getD (r .class) i 0) i)) n) (d .keeps .states)
       ∙ sum-same (λ i. bit (eqb (getD (p .class) i 0) i)) (λ i. bit (eqb (getD (r .class) i 0) i)) (p .states)
-          (λ i l. ap (λ (c : ℕ). bit (eqb c i)) (on i (omega (arith, long, l))))
+      (λ i l. ap (λ (c : ℕ). bit (eqb c i)) (on i (omega (arith, long, l))))
       ∙ sym (p .counted)
 
   -- The round split nothing exactly when there are as many classes as before.
   pub next-rests : eqb (r .count) (p .count) ≡ settled a b k
   next-rests = bools _ _
       (λ e. settled-T a b k .1 (still-settled a b k (p .class) (r .class) h next-numbered
-        (λ i j hi hj al. let c : r .class ≡ p .class = d .keeps .still (omega (arith, eqb-true _ _ (T-yes _ e))) in
-          subst (λ (l : List ℕ). Alike l i j) (sym c) al)))
+      (λ i j hi hj al. let c : r .class ≡ p .class = d .keeps .still (omega (arith, eqb-true _ _ (T-yes _ e))) in
+      subst (λ (l : List ℕ). Alike l i j) (sym c) al)))
       (λ st. subst T (sym (eq-eqb _ _ (still-count (settled-T a b k .0 st)))) tt)
 
   pub next-pace : suc k ≤ p .count → cond (eqb (r .count) (p .count)) (suc k) (suc (suc k)) ≤ r .count

@@ -20,7 +20,6 @@ module _ (n : ℕ) (cl new : ℕ → ℕ) (y : ℕ → Bool) (c s0 : ℕ)
     (in0 : s0 < n) (of0 : cl s0 ≡ c) (y0 : y s0 ≡ true) (yc : y c ≡ false)
     (first : (t : ℕ) → t < s0 → cl t ≡ c → y t ≡ false)
     (is : (t : ℕ) → t < n → new t ≡ cond (eqb (cl t) c && y t) s0 (cl t)) where
-
   abbrev Moved : ℕ → Type 0
   Moved t = (cl t ≡ c) × (y t ≡ true) × (new t ≡ s0)
 
@@ -50,8 +49,8 @@ module _ (n : ℕ) (cl new : ℕ → ℕ) (y : ℕ → Bool) (c s0 : ℕ)
 
   pub low-after : (t : ℕ) → t < n → new t ≤ t
   low-after t h = ⊎-elim
-    (λ m. elim-lt (m .0) (m .1) (m .2))
-    (λ m. omega (arith, m .1, low t h)) (ways t h)
+      (λ m. elim-lt (m .0) (m .1) (m .2))
+      (λ m. omega (arith, m .1, low t h)) (ways t h)
     where
       elim-lt : cl t ≡ c → y t ≡ true → new t ≡ s0 → new t ≤ t
       elim-lt e q w = let f : t < s0 → ⊥ = λ l. (let a : y t ≡ false = first t l e in let z : _≡_ {A = ℕ} 0 1 = cc in omega arith) in omega (arith, f)
@@ -68,12 +67,12 @@ module _ (n : ℕ) (cl new : ℕ → ℕ) (y : ℕ → Bool) (c s0 : ℕ)
 
   pub led-after : (t : ℕ) → t < n → new (new t) ≡ new t
   led-after t h = ⊎-elim
-    (λ m. let e = m .2 in subst (λ (v : ℕ). new v ≡ v) (sym e) new-s0)
-    (λ m. let e = m .1 in subst (λ (v : ℕ). new v ≡ v) (sym e) (⊎-elim
-        (λ k. let q : cl t ≡ c = sym (led t h) ∙ k .0 in subst (λ (v : ℕ). new v ≡ v) (sym q) new-c)
-        (λ k. k .1 ∙ led t h)
-        (ways (cl t) (omega (arith, low t h)))))
-    (ways t h)
+      (λ m. let e = m .2 in subst (λ (v : ℕ). new v ≡ v) (sym e) new-s0)
+      (λ m. let e = m .1 in subst (λ (v : ℕ). new v ≡ v) (sym e) (⊎-elim
+      (λ k. let q : cl t ≡ c = sym (led t h) ∙ k .0 in subst (λ (v : ℕ). new v ≡ v) (sym q) new-c)
+      (λ k. k .1 ∙ led t h)
+      (ways (cl t) (omega (arith, low t h)))))
+      (ways t h)
 
   -- what is one class now was one class before, on one side of y
   pub one-before : (s t : ℕ) → s < n → t < n → new s ≡ new t → cl s ≡ cl t
@@ -99,8 +98,10 @@ module _ (n : ℕ) (cl new : ℕ → ℕ) (y : ℕ → Bool) (c s0 : ℕ)
     where
       no : y s ≡ true → y t ≡ false → cl s ≡ c → ⊥
       no a b d = let w = z d in let v : _≡_ {A = ℕ} 0 1 = cc in omega arith
+
       no′ : y s ≡ false → y t ≡ true → cl s ≡ c → ⊥
       no′ a b d = let w = z d in let v : _≡_ {A = ℕ} 0 1 = cc in omega arith
+
       go : Moved s ⊎ Stays s → Moved t ⊎ Stays t → new s ≡ new t
       go (inl p) (inl q) = p .2 ∙ sym (q .2)
       go (inl p) (inr q) = absurd (no (p .1) (q .0 (sym e ∙ p .0)) (p .0))
@@ -110,20 +111,19 @@ module _ (n : ℕ) (cl new : ℕ → ℕ) (y : ℕ → Bool) (c s0 : ℕ)
   -- the one new leader
   pub leaders-after : sum (λ i. bit (eqb (new i) i)) n ≡ suc (sum (λ i. bit (eqb (cl i) i)) n)
   leaders-after = sum-more (λ i. bit (eqb (cl i) i)) (λ i. bit (eqb (new i) i)) n s0 in0
-    (λ i h d. ⊎-elim
+      (λ i h d. ⊎-elim
       (λ m. let a : eqb (new i) i ≡ false = ne-eqb _ _ (λ z. d (sym z ∙ m .2)) in
-            let b : eqb (cl i) i ≡ false = ne-eqb _ _ (λ z. (let q : i ≡ c = sym z ∙ m .0 in let w : y i ≡ y c = ap y q in let x : _≡_ {A = ℕ} 0 1 = cc (m .1) in omega arith)) in
-            rw (a, b) refl)
+      let b : eqb (cl i) i ≡ false = ne-eqb _ _ (λ z. (let q : i ≡ c = sym z ∙ m .0 in let w : y i ≡ y c = ap y q in let x : _≡_ {A = ℕ} 0 1 = cc (m .1) in omega arith)) in
+      rw (a, b) refl)
       (λ m. rw (m .1) refl) (ways i h))
-    (let a : eqb (new s0) s0 ≡ true = eq-eqb _ _ new-s0 in
-     let b : eqb (cl s0) s0 ≡ false = ne-eqb _ _ (λ z. unused s0 in0 z) in rw (a, b) refl)
+      (let a : eqb (new s0) s0 ≡ true = eq-eqb _ _ new-s0 in
+      let b : eqb (cl s0) s0 ≡ false = ne-eqb _ _ (λ z. unused s0 in0 z) in rw (a, b) refl)
 
   -- formulas: f is true of (leader, state) before, g after
   module _ (f g : ℕ → ℕ → Bool) (ex : (t s : ℕ) → t < n → s < n → f (cl t) s ≡ eqb (cl s) (cl t))
       (gc : (s : ℕ) → s < n → g c s ≡ (f c s && not (y s)))
       (g0 : (s : ℕ) → s < n → g s0 s ≡ (f c s && y s))
       (other : (t s : ℕ) → t < n → s < n → (cl t ≡ c → ⊥) → (cl t ≡ s0 → ⊥) → g (cl t) s ≡ f (cl t) s) where
-
     fc : (s : ℕ) → s < n → f c s ≡ eqb (cl s) c
     fc s h = let e : cl s0 ≡ c = of0 in subst (λ (v : ℕ). f v s ≡ eqb (cl s) v) of0 (ex s0 s in0 h)
 
@@ -160,13 +160,14 @@ module _ (n : ℕ) (cl new : ℕ → ℕ) (y : ℕ → Bool) (c s0 : ℕ)
     exact-after t s ht hs = ⊎-elim
         (λ m. subst (λ (v : ℕ). g v s ≡ eqb (new s) v) (sym (m .2)) (at-s0 s hs))
         (λ m. subst (λ (v : ℕ). g v s ≡ eqb (new s) v) (sym (m .1)) (elim (ℕ-discrete (cl t) c) [
-            yes e ↦ subst (λ (v : ℕ). g v s ≡ eqb (new s) v) (sym e) (at-c s hs)
-          | no d ↦ at-other t s ht hs d ]))
+          | yes e ↦ subst (λ (v : ℕ). g v s ≡ eqb (new s) v) (sym e) (at-c s hs)
+          | no d ↦ at-other t s ht hs d
+        ]))
         (ways t ht)
 
   -- what holds of the nodes of c and s0 now, and of the other classes' nodes before, holds of each class's node
   pub each-after : (P : ℕ → Type 0) → P c → P s0 → ((t : ℕ) → t < n → (cl t ≡ c → ⊥) → (cl t ≡ s0 → ⊥) → P (cl t)) → (t : ℕ) → t < n → P (new t)
   each-after P pc p0 po t h = ⊎-elim
-        (λ m. subst P (sym (m .2)) p0)
-        (λ m. subst P (sym (m .1)) (elim (ℕ-discrete (cl t) c) [ yes e ↦ subst P (sym e) pc | no d ↦ po t h d (unused t h) ]))
-        (ways t h)
+      (λ m. subst P (sym (m .2)) p0)
+      (λ m. subst P (sym (m .1)) (elim (ℕ-discrete (cl t) c) [ yes e ↦ subst P (sym e) pc | no d ↦ po t h d (unused t h) ]))
+      (ways t h)

@@ -1,7 +1,6 @@
 -- Sums over the numbers below n, and counts.
 use mathlib.Core.Path.{_≡_, refl, sym, subst, ap, _∙_}
 use mathlib.Core.Bool.{Bool, true, false}
-
 use Prim.Native.Nat.{ℕ, zero, suc, _+_, _<_, _≤_}
 use native.Mathlib.Omega.{arith}
 use native.Mathlib.Decide.{ℕ-discrete}
@@ -14,9 +13,9 @@ sum-mono g h (suc n) le = omega (arith, le n (omega arith), sum-mono g h n (λ i
 pub sum-less : (g h : ℕ → ℕ) (n : ℕ) → ((i : ℕ) → i < n → g i ≤ h i) → (i : ℕ) → i < n → g i < h i → sum g n < sum h n
 sum-less g h zero le i l s = omega arith
 sum-less g h (suc n) le i l s = elim (ℕ-discrete i n) [
-    yes e ↦ (let s′ : g n < h n = subst (λ j. g j < h j) e s in omega (arith, sum-mono g h n (λ i l. le i (omega arith))))
+  | yes e ↦ (let s′ : g n < h n = subst (λ j. g j < h j) e s in omega (arith, sum-mono g h n (λ i l. le i (omega arith))))
   | no d ↦ omega (arith, le n (omega arith), sum-less g h n (λ i l. le i (omega arith)) i (omega arith) s)
-  ]
+]
 
 pub sum-ones : (n : ℕ) → sum (λ i. 1) n ≡ n
 sum-ones zero = refl
@@ -34,7 +33,7 @@ sum-same g h (suc n) e = omega (arith, e n (omega arith), sum-same g h n (λ i l
 pub sum-more : (g h : ℕ → ℕ) (n s : ℕ) → s < n → ((i : ℕ) → i < n → (i ≡ s → ⊥) → h i ≡ g i) → h s ≡ suc (g s) → sum h n ≡ suc (sum g n)
 sum-more g h zero s l e d = absurd (omega arith)
 sum-more g h (suc n) s l e d = elim (ℕ-discrete s n) [
-    yes q ↦ (let d′ : h n ≡ suc (g n) = subst (λ j. h j ≡ suc (g j)) q d in
-             omega (arith, d′, sum-same g h n (λ i m. e i (omega arith) (λ z. omega arith))))
+  | yes q ↦ (let d′ : h n ≡ suc (g n) = subst (λ j. h j ≡ suc (g j)) q d in
+      omega (arith, d′, sum-same g h n (λ i m. e i (omega arith) (λ z. omega arith))))
   | no q ↦ omega (arith, e n (omega arith) (λ z. q (sym z)), sum-more g h n s (omega arith) (λ i m. e i (omega arith)) d)
-  ]
+]

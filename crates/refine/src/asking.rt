@@ -44,7 +44,11 @@ impl Pair {
         ensures { λ r. ⌜ r ≡ answer (both-of (now (self .entry))) i q ⌝ }
     {
         let n = self.first.rows.len();
-        if i < n { self.first.answer(i, q) } else { self.second.answer(i - n, q) }
+        if i < n {
+            self.first.answer(i, q)
+        } else {
+            self.second.answer(i - n, q)
+        }
     }
 
     fn leads(&self, i: usize, class: &[u16; 512], c: u16) -> bool
@@ -52,7 +56,11 @@ impl Pair {
         ensures { λ r. ⌜ r ≡ hits (both-of (now (self .entry))) (now (class .entry)) c i ⌝ }
     {
         let n = self.first.rows.len();
-        if i < n { self.first.leads(i, class, 0, c) } else { self.second.leads(i - n, class, n, c) }
+        if i < n {
+            self.first.leads(i, class, 0, c)
+        } else {
+            self.second.leads(i - n, class, n, c)
+        }
     }
 
     // How many states there are in all.

@@ -7,7 +7,9 @@ use kripke::node::Node;
 
 // The codes of the operators.
 const TRUTH: u8 = 0;
+
 const NOT: u8 = 2;
+
 const AND: u8 = 3;
 
 // Adds the test and its negation; the number of the test.
@@ -19,7 +21,11 @@ pub fn begin(nodes: &mut Vec<Node>, test: Node) -> u16
 {
     let x = nodes.len() as u16;
     nodes.push_reserved(test);
-    nodes.push_reserved(Node { code: NOT, a: x, b: 0 });
+    nodes.push_reserved(Node {
+        code: NOT,
+        a: x,
+        b: 0,
+    });
     x
 }
 

@@ -1,14 +1,13 @@
 // Two models read into tables, and their states split into classes, round by round.
 
-pub mod pair;
-pub mod partition;
-pub mod refinement;
-pub mod row;
-pub mod stages;
-pub mod table;
-
 mod asking;
 mod growth;
+pub mod pair;
+pub mod partition;
 mod reading;
+pub mod refinement;
 mod rounds;
+pub mod row;
 mod split;
+pub mod stages;
+pub mod table;

@@ -56,5 +56,9 @@ pub fn read<L: Label, M: Model<Label = L>>(heap: Global, model: &M) -> Result<Ta
     for s in 0..model.states() {
         rows.push(row(heap, model, s)?)?;
     }
-    Ok(Table { questions, initial, rows })
+    Ok(Table {
+        questions,
+        initial,
+        rows,
+    })
 }

@@ -17,19 +17,36 @@ use std::alloc::Global;
 
 // The codes of true, a question and EX.
 const TRUTH: u8 = 0;
+
 const QUESTION: u8 = 1;
+
 const NEXT: u8 = 5;
 
 impl Partition {
     // All states in one class, whose formula is `true`. Every node that a comparison can need is reserved.
-    pub(crate) fn whole(heap: Global, states: u16, questions: usize) -> Result<Partition, AllocError>
+    pub(crate) fn whole(
+        heap: Global,
+        states: u16,
+        questions: usize,
+    ) -> Result<Partition, AllocError>
         requires some { ⌜ 1 ≤ states ⌝ }
         requires few { ⌜ states ≤ 512 ⌝ }
         ensures { λ r. ⌜ made r (λ p. One states questions p) ⌝ }
     {
         let mut nodes = Vec::with_capacity(heap, 2048)?;
-        nodes.push_reserved(Node { code: TRUTH, a: 0, b: 0 });
-        Ok(Partition { states, questions, class: [0; 512], node: [0; 512], nodes, count: 1 })
+        nodes.push_reserved(Node {
+            code: TRUTH,
+            a: 0,
+            b: 0,
+        });
+        Ok(Partition {
+            states,
+            questions,
+            class: [0; 512],
+            node: [0; 512],
+            nodes,
+            count: 1,
+        })
     }
 
     // Splits the classes by each question.
@@ -43,7 +60,14 @@ impl Partition {
         let questions = self.questions;
         for q in 0..questions {
             let row = pair.answer_row(q);
-            self.split(Node { code: QUESTION, a: q as u16, b: 0 }, &row);
+            self.split(
+                Node {
+                    code: QUESTION,
+                    a: q as u16,
+                    b: 0,
+                },
+                &row,
+            );
         }
     }
 
@@ -55,7 +79,14 @@ impl Partition {
         ensures few { λ _. ⌜ Few (now (self .exit)) ⌝ }
     {
         let row = pair.successor_row(before, c);
-        self.split(Node { code: NEXT, a: name, b: 0 }, &row);
+        self.split(
+            Node {
+                code: NEXT,
+                a: name,
+                b: 0,
+            },
+            &row,
+        );
     }
 
     // Splits every class by each class of the table before, whose nodes are `names`.

@@ -15,7 +15,11 @@ use std::alloc::Global;
 
 impl Refinement {
     // Two models of one label kind, and the classes of their states by their labels. Want of memory is the only error.
-    pub fn open<L: Label, M: Model<Label = L>, N: Model<Label = L>>(heap: Global, first: &M, second: &N) -> Result<Refinement, AllocError>
+    pub fn open<L: Label, M: Model<Label = L>, N: Model<Label = L>>(
+        heap: Global,
+        first: &M,
+        second: &N,
+    ) -> Result<Refinement, AllocError>
         ensures { λ r. ⌜ made r (λ s. Opened (L·Label .count) (M·Model .meaning (now (first .entry))) (N·Model .meaning (now (second .entry))) s) ⌝ }
     {
         let first = read(heap, first)?;
@@ -23,7 +27,12 @@ impl Refinement {
         let pair = Pair { first, second };
         let mut parts = Partition::whole(heap, pair.states() as u16, pair.first.questions)?;
         parts.ask_all(&pair);
-        Ok(Refinement { pair, parts, rounds: 0, rests: false })
+        Ok(Refinement {
+            pair,
+            parts,
+            rounds: 0,
+            rests: false,
+        })
     }
 
     // One round more.

@@ -17,10 +17,11 @@ use Rattle.compare.proofs.prune.reach.Needs as need
 
 pub loop-i-holds : need.loop-i-holds
 loop-i-holds c =
-    let z : List Bool = replicate 2048 false in
-    ( length-set z (c .args .root) true ∙ length-replicate 2048 false
-    , omega arith
-    , marking-start (vec-items (c .args .parts .now .nodes)) (c .args .root) 2048 (omega arith) )
+    let z : List Bool = replicate 2048 false in (
+      length-set z (c .args .root) true ∙ length-replicate 2048 false,
+      omega arith,
+      marking-start (vec-items (c .args .parts .now .nodes)) (c .args .root) 2048 (omega arith),
+    )
 
 pub mark-requires : need.mark-requires
 mark-requires c κs = λ e.
@@ -50,15 +51,16 @@ loop-i-again-then-reached-i c =
     let s : c .loop-i .i ≡ suc (c .loop-i .i - 1) = omega arith in
     let l : i < length ns = omega (arith, c .loop-i .inv .1) in
     let r : m ≡ n = getD-read ns i m l (c .index-n .ensures) blank in
-    let f : T (nextNode (p .questions) i n) = p .orderly i l in
-    ( c .mark-then-reached-i .array-long
-    , omega (arith, c .loop-i .inv .1)
-    , marking-more (p .questions) ns (c .args .root) i (c .loop-i .i) (c .loop-i .reached) (c .mark .last .reached) (c .mark-then-reached-i .last .reached)
-        s (p .orderly) l (c .if-reached-i .taken)
-        (marks (c .uses-a .result) (usesA n) (n .a) (c .loop-i .reached) (c .mark .last .reached) (c .uses-a .ensures ∙ ap usesA r)
+    let f : T (nextNode (p .questions) i n) = p .orderly i l in (
+      c .mark-then-reached-i .array-long,
+      omega (arith, c .loop-i .inv .1),
+      marking-more (p .questions) ns (c .args .root) i (c .loop-i .i) (c .loop-i .reached) (c .mark .last .reached) (c .mark-then-reached-i .last .reached)
+          s (p .orderly) l (c .if-reached-i .taken)
+          (marks (c .uses-a .result) (usesA n) (n .a) (c .loop-i .reached) (c .mark .last .reached) (c .uses-a .ensures ∙ ap usesA r)
           (λ e. omega (arith, names-a (p .questions) i n f e, l, c .pre .few, c .loop-i .inv .0))
           (subst (λ (z : Node). c .mark .last .reached ≡ cond (c .uses-a .result) (set (c .loop-i .reached) (z .a) true) (c .loop-i .reached)) r (c .mark .ensures)))
-        (marks (c .uses-b .result) (usesB n) (n .b) (c .mark .last .reached) (c .mark-then-reached-i .last .reached) (c .uses-b .ensures ∙ ap usesB r)
+          (marks (c .uses-b .result) (usesB n) (n .b) (c .mark .last .reached) (c .mark-then-reached-i .last .reached) (c .uses-b .ensures ∙ ap usesB r)
           (λ e. omega (arith, names-b (p .questions) i n f e, l, c .pre .few, c .mark .array-long))
           (subst (λ (z : Node). c .mark-then-reached-i .last .reached ≡ cond (c .uses-b .result) (set (c .mark .last .reached) (z .b) true) (c .mark .last .reached)) r (c .mark-then-reached-i .ensures)))
-        (c .loop-i .inv .2) )
+          (c .loop-i .inv .2),
+    )

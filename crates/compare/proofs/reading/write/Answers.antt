@@ -10,9 +10,10 @@ use Rattle.compare.proofs.reading.write.Needs as need
 
 pub loop-i-again : need.loop-i-again
 loop-i-again c =
-    let l : c .loop-i .i < length (c .loop-i .places) = omega arith in
-    (copy-more (c .args .nodes .now) (c .loop-i .places) (c .loop-i .i) _ blank (c .loop-i-test .taken) l refl (c .loop-i .inv .0),
-     copy-rest (c .loop-i .places) (c .args .places .now) (c .loop-i .i) _ (c .loop-i .inv .1))
+    let l : c .loop-i .i < length (c .loop-i .places) = omega arith in (
+      copy-more (c .args .nodes .now) (c .loop-i .places) (c .loop-i .i) _ blank (c .loop-i-test .taken) l refl (c .loop-i .inv .0),
+      copy-rest (c .loop-i .places) (c .args .places .now) (c .loop-i .i) _ (c .loop-i .inv .1),
+    )
 
 pub returns : need.returns
 returns c =
@@ -20,4 +21,5 @@ returns c =
     let e : c .loop-i .i ≡ n = omega arith in
     record {
       front = subst (λ (i : ℕ). take i (c .loop-i .places) ≡ take i (c .args .nodes .now)) e (c .loop-i .inv .0) ∙ take-all n (c .args .nodes .now) (omega arith);
-      rest = c .loop-i .inv .1 n (omega (arith, e)) }
+      rest = c .loop-i .inv .1 n (omega (arith, e));
+    }

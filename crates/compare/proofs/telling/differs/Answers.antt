@@ -14,8 +14,8 @@ pub returns : need.returns
 returns c =
     let r = c .args .stages .now in
     let e : c .second-state .result ≡ length (vec-items (r .pair .first .rows)) + r .pair .second .initial =
-        omega (arith, c .second-state .ensures .value, row-size (r .pair .first .initial) (vec-items (r .pair .first .rows))) in
+    omega (arith, c .second-state .ensures .value, row-size (r .pair .first .initial) (vec-items (r .pair .first .rows))) in
     let one : c .class-at-one .result ≡ class-of (r .parts) (r .pair .first .initial) = c .class-at-one .ensures .value ∙ ap (λ (s : ℕ). class-of (r .parts) s) (c .first-state .ensures .value) in
     let other : c .class-at-other .result ≡ class-of (r .parts) (length (vec-items (r .pair .first .rows)) + r .pair .second .initial) =
-        c .class-at-other .ensures .value ∙ ap (λ (s : ℕ). class-of (r .parts) s) e in
+    c .class-at-other .ensures .value ∙ ap (λ (s : ℕ). class-of (r .parts) s) e in
     ap (λ (z : ℕ). not (eqb z (c .class-at-other .result))) one ∙ ap (λ (z : ℕ). not (eqb (class-of (r .parts) (r .pair .first .initial)) z)) other ∙ ap not (level-is r)

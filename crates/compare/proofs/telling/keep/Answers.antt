@@ -15,7 +15,9 @@ prune-requires c κs =
     record {
       few = nodes-fit r;
       inside = subst (λ (i : ℕ). i < length (vec-items (r .parts .nodes))) (sym (c .root .ensures)) (r .parts .here (r .pair .first .initial) (one-in r));
-      empty = c .clear .ensures .items; room = omega (arith, c .clear .ensures .capacity, c .pre) }
+      empty = c .clear .ensures .items;
+      room = omega (arith, c .clear .ensures .capacity, c .pre);
+    }
 
 pub returns-then-differs : need.returns-then-differs
 returns-then-differs c =
@@ -25,11 +27,13 @@ returns-then-differs c =
     record {
       kept = kept-some r (not-true _ (sym (c .differs .ensures) ∙ c .if-differs .taken)) ns
           (subst (λ (q : ℕ). Pruned q (vec-items (r .parts .nodes)) (getD (r .parts .node) (class-of (r .parts) (r .pair .first .initial)) 0) ns) (r .asks) p);
-      room = c .prune .ensures .room }
+      room = c .prune .ensures .room;
+    }
 
 pub returns-else-differs : need.returns-else-differs
 returns-else-differs c =
     let r = c .args .stages .now in
     record {
       kept = kept-none r (not-false _ (sym (c .differs .ensures) ∙ c .if-differs .left)) _ (c .clear .ensures .items);
-      room = omega (arith, c .clear .ensures .capacity, c .pre) }
+      room = omega (arith, c .clear .ensures .capacity, c .pre);
+    }

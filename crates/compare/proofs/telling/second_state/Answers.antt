@@ -13,4 +13,5 @@ returns c =
     let n : c .len .result ≡ length (vec-items (r .pair .first .rows)) = search needs in
     record {
       value = omega (arith, n, row-size (r .pair .first .initial) (vec-items (r .pair .first .rows)));
-      inside = omega (arith, n, other-in r) }
+      inside = omega (arith, n, other-in r);
+    }

@@ -11,4 +11,5 @@ returns c =
     record {
       begun = begun (vec-items (c .args .nodes .now)) (vec-items (c .push-reserved .last .self)) (vec-items (c .push-reserved-2 .last .self)) (c .args .test) (c .len-x .result) l
           (c .push-reserved .ensures .items) (c .push-reserved-2 .ensures .items);
-      room = search needs }
+      room = search needs;
+    }

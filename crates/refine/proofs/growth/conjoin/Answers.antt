@@ -14,7 +14,8 @@ returns-then-index-eq-TRUTH c =
     record {
       conjoined = conjoined-true ns (c .args .a) (c .args .b) (c .pre .first) (c .pre .second)
           (sym (ap (λ (n : Node). n .code) (getD-read ns (c .args .a) (c .index .result .now) (c .pre .first) (c .index .ensures) blank)) ∙ c .if-index-eq-TRUTH .taken);
-      room = c .pre .room }
+      room = c .pre .room;
+    }
 
 pub returns : need.returns
 returns c =
@@ -22,4 +23,5 @@ returns c =
     record {
       conjoined = conjoined-new (vec-items (c .args .nodes .now)) (vec-items (c .push-reserved .last .self)) (c .args .a) (c .args .b) (c .len-r .result) (c .pre .first) (c .pre .second) l
           (c .push-reserved .ensures .items);
-      room = search needs }
+      room = search needs;
+    }

@@ -14,9 +14,10 @@ use Rattle.refine.proofs.reading.read.Needs as need
 pub loop-s-again : need.loop-s-again
 loop-s-again g c =
     let k : Kripke = (g .M·Model) .meaning (c .args .model .now) in
-    let l : c .loop-s .s < size k = omega (arith, c .loop-s .inv .0) in
-    (c .loop-s .inv .0,
-     fill-more (k .states) (c .loop-s .s) _ _ _ _ l (c .loop-s .inv .1) (c .in-Continue-row .ensures tt) (map-push state-of _ _ _ (c .in-Continue-push .ensures tt .items)))
+    let l : c .loop-s .s < size k = omega (arith, c .loop-s .inv .0) in (
+      c .loop-s .inv .0,
+      fill-more (k .states) (c .loop-s .s) _ _ _ _ l (c .loop-s .inv .1) (c .in-Continue-row .ensures tt) (map-push state-of _ _ _ (c .in-Continue-push .ensures tt .items)),
+    )
 
 pub ghost-result : need.ghost-result
 ghost-result g c =
@@ -37,4 +38,5 @@ returns g c =
     let l : size k ≤ c .loop-s .s = omega (arith, c .loop-s .inv .0) in
     record {
       structure = structure-is (c .initial-initial .result) rows k (c .initial-initial .ensures) (fill-all (k .states) (c .loop-s .s) _ l (c .loop-s .inv .1));
-      questions = c .questions-questions .ensures }
+      questions = c .questions-questions .ensures;
+    }

@@ -20,11 +20,14 @@ loop-request-again c =
     let t = c .loop-request .self in
     let i : ℕ = c .loop-request .request-index in
     let inv = c .loop-request .inv in
-    let l : i < length (c .args .requests .now) = c .loop-request-test .taken in
-    (search needs, search needs, same-trans s t _ (inv .2) (c .answer-answer .ensures .same),
-     run-step (first s) (second s) (questions s) (rounds s) (c .args .requests .now) i _ _ (c .answer-answer .result) (rounds t) _ l (inv .3)
-       (law-from s t _ _ _ (inv .2) (c .answer-answer .ensures .law)) (c .push-reserved .ensures .items),
-     kept-more s t _ _ _ (c .answer-answer .result) (inv .4) (c .answer-answer .ensures .kept) (c .push-reserved .ensures .items))
+    let l : i < length (c .args .requests .now) = c .loop-request-test .taken in (
+      search needs,
+      search needs,
+      same-trans s t _ (inv .2) (c .answer-answer .ensures .same),
+      run-step (first s) (second s) (questions s) (rounds s) (c .args .requests .now) i _ _ (c .answer-answer .result) (rounds t) _ l (inv .3)
+          (law-from s t _ _ _ (inv .2) (c .answer-answer .ensures .law)) (c .push-reserved .ensures .items),
+      kept-more s t _ _ _ (c .answer-answer .result) (inv .4) (c .answer-answer .ensures .kept) (c .push-reserved .ensures .items),
+    )
 
 pub returns : need.returns
 returns c =
@@ -34,4 +37,5 @@ returns c =
     record {
       law = run-all (first s) (second s) (questions s) (rounds s) (c .args .requests .now) (c .loop-request .request-index) _ _ l (inv .3);
       same = inv .2;
-      steady = inv .4 .steady }
+      steady = inv .4 .steady;
+    }

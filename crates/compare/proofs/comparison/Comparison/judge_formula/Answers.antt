@@ -15,16 +15,20 @@ use Rattle.compare.proofs.comparison.Comparison.judge_formula.Needs as need
 
 pub returns-then-not-differs : need.returns-then-not-differs
 returns-then-not-differs c =
-    let s = c .args .self .now in
-    (subst (λ (z : Refusal). First (FormulaBreach (first s) (second s) (rounds s) (c .args .places)) layer.Comparison z) (sym (c .refusal .ensures))
-      (formula-refused (first s) (second s) (rounds s) (c .args .places) (not-false _ (sym (c .differs .ensures) ∙ c .if-not-differs .taken))), tt)
+    let s = c .args .self .now in (
+      subst (λ (z : Refusal). First (FormulaBreach (first s) (second s) (rounds s) (c .args .places)) layer.Comparison z) (sym (c .refusal .ensures))
+          (formula-refused (first s) (second s) (rounds s) (c .args .places) (not-false _ (sym (c .differs .ensures) ∙ c .if-not-differs .taken))),
+      tt,
+    )
 
 pub returns-then-places-enough : need.returns-then-places-enough
 returns-then-places-enough c =
-    let s = c .args .self .now in
-    (subst (λ (z : Refusal). First (FormulaBreach (first s) (second s) (rounds s) (c .args .places)) layer.Comparison z) (sym (c .refusal-then-places-enough .ensures))
-      (places-refused (first s) (second s) (rounds s) (c .args .places) (not-true _ (sym (c .differs .ensures) ∙ c .if-not-differs .left))
-        (omega (arith, c .if-places-enough .taken, c .enough .ensures, s .stages .long))), tt)
+    let s = c .args .self .now in (
+      subst (λ (z : Refusal). First (FormulaBreach (first s) (second s) (rounds s) (c .args .places)) layer.Comparison z) (sym (c .refusal-then-places-enough .ensures))
+          (places-refused (first s) (second s) (rounds s) (c .args .places) (not-true _ (sym (c .differs .ensures) ∙ c .if-not-differs .left))
+          (omega (arith, c .if-places-enough .taken, c .enough .ensures, s .stages .long))),
+      tt,
+    )
 
 pub returns : need.returns
 returns c =

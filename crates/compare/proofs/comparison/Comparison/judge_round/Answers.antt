@@ -9,9 +9,11 @@ use Rattle.compare.proofs.comparison.Comparison.judge_round.Needs as need
 
 pub returns-then-is-closed : need.returns-then-is-closed
 returns-then-is-closed c =
-    let s = c .args .self .now in
-    (subst (λ (z : Refusal). First (RoundBreach (first s) (second s) (rounds s)) layer.Comparison z) (sym (c .refusal .ensures))
-      (round-refused (first s) (second s) (rounds s) (sym (c .is-closed .ensures) ∙ c .if-is-closed .taken)), tt)
+    let s = c .args .self .now in (
+      subst (λ (z : Refusal). First (RoundBreach (first s) (second s) (rounds s)) layer.Comparison z) (sym (c .refusal .ensures))
+          (round-refused (first s) (second s) (rounds s) (sym (c .is-closed .ensures) ∙ c .if-is-closed .taken)),
+      tt,
+    )
 
 pub returns : need.returns
 returns c =

@@ -12,9 +12,11 @@ use Rattle.compare.proofs.comparison.Comparison.judge_state.Needs as need
 
 pub returns-then-i-self : need.returns-then-i-self
 returns-then-i-self c =
-    let s = c .args .self .now in
-    (subst (λ (e : Refusal). First (ClassBreach (first s) (second s) (c .args .i)) layer.Comparison e) (sym (c .refusal .ensures))
-      (class-refused (first s) (second s) (c .args .i) (omega (arith, c .if-i-self .taken, s .stages .long))), tt)
+    let s = c .args .self .now in (
+      subst (λ (e : Refusal). First (ClassBreach (first s) (second s) (c .args .i)) layer.Comparison e) (sym (c .refusal .ensures))
+          (class-refused (first s) (second s) (c .args .i) (omega (arith, c .if-i-self .taken, s .stages .long))),
+      tt,
+    )
 
 pub returns : need.returns
 returns c =

@@ -11,9 +11,11 @@ use Rattle.compare.proofs.comparison.Comparison.judge_verdict.Needs as need
 
 pub returns-then-not-is-closed : need.returns-then-not-is-closed
 returns-then-not-is-closed c =
-    let s = c .args .self .now in
-    (subst (λ (z : Refusal). First (VerdictBreach (first s) (second s) (rounds s)) layer.Comparison z) (sym (c .refusal .ensures))
-      (verdict-refused (first s) (second s) (rounds s) (sym (c .is-closed .ensures) ∙ c .if-not-is-closed .taken)), tt)
+    let s = c .args .self .now in (
+      subst (λ (z : Refusal). First (VerdictBreach (first s) (second s) (rounds s)) layer.Comparison z) (sym (c .refusal .ensures))
+          (verdict-refused (first s) (second s) (rounds s) (sym (c .is-closed .ensures) ∙ c .if-not-is-closed .taken)),
+      tt,
+    )
 
 pub returns : need.returns
 returns c =

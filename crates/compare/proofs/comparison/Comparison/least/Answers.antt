@@ -22,5 +22,5 @@ returns c =
     let led : Led (total a b) (r .parts .class) = subst (λ (n : ℕ). Led n (r .parts .class)) (r .long) (r .parts .led) in
     let h : getD (r .parts .class) i 0 < total a b = omega (arith, low i (c .pre), c .pre) in
     let z = class-by-formulas a b (first-lawful r .closed) (second-lawful r .closed) (r .rounds) i (getD (r .parts .class) i 0) (c .pre) h .0
-        (class-of a b (r .rounds) (r .parts .class) (r .numbered) low led i (c .pre)) in
+    (class-of a b (r .rounds) (r .parts .class) (r .numbered) low led i (c .pre)) in
     record { inside = h; inseparable = z .0; least = z .1 }

@@ -15,7 +15,8 @@ answer-requires-else-i-n c κs =
     let n : c .len-n .result ≡ length (vec-items (p .first .rows)) = search needs in
     record {
       state = omega (arith, n, c .pre .state, c .if-i-n .left, row-size (p .first .initial) (vec-items (p .first .rows)), row-size (p .second .initial) (vec-items (p .second .rows)));
-      question = omega (arith, c .pre .question, p .level) }
+      question = omega (arith, c .pre .question, p .level);
+    }
 
 pub returns-then-i-n : need.returns-then-i-n
 returns-then-i-n c =

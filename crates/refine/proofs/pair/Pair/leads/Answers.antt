@@ -16,7 +16,8 @@ leads-requires-else-i-n c κs =
     let n : c .len-n .result ≡ length (vec-items (p .first .rows)) = search needs in
     record {
       state = omega (arith, n, c .pre, c .if-i-n .left, row-size (p .first .initial) (vec-items (p .first .rows)), row-size (p .second .initial) (vec-items (p .second .rows)));
-      low = omega (arith, n, p .first .few) }
+      low = omega (arith, n, p .first .few);
+    }
 
 pub returns-then-i-n : need.returns-then-i-n
 returns-then-i-n c =

@@ -13,4 +13,5 @@ returns c =
     let l2 : c .len-2 .result ≡ length (vec-items (p .second .rows)) = search needs in
     record {
       value = omega (arith, l1, l2, row-size (p .first .initial) (vec-items (p .first .rows)), row-size (p .second .initial) (vec-items (p .second .rows)));
-      few = omega (arith, l1, l2, p .first .few, p .second .few) }
+      few = omega (arith, l1, l2, p .first .few, p .second .few);
+    }

@@ -15,11 +15,13 @@ loop-q-holds c = (asking-none (both-of (c .args .pair .now)) (c .args .self .now
 
 pub split-requires : need.split-requires
 split-requires c κs = record {
-    fits = T-and _ _ (lt-T (c .loop-q .q) (c .loop-q .self .questions) (omega (arith, c .loop-q-test .taken, c .loop-q .inv .0 .keeps .questions))) tt;
-    few = c .loop-q .inv .1 }
+  fits = T-and _ _ (lt-T (c .loop-q .q) (c .loop-q .self .questions) (omega (arith, c .loop-q-test .taken, c .loop-q .inv .0 .keeps .questions))) tt;
+  few = c .loop-q .inv .1;
+}
 
 pub loop-q-again : need.loop-q-again
-loop-q-again c =
-    (asking-more (both-of (c .args .pair .now)) (c .args .self .now) (c .loop-q .self) (c .split .last .self) (c .loop-q .q) (c .answer-row-row .result) (c .loop-q .inv .0)
-        (λ s h. c .answer-row-row .ensures s (omega (arith, h, c .pre .long))) (c .split .ensures .divided),
-     c .split .ensures .few)
+loop-q-again c = (
+  asking-more (both-of (c .args .pair .now)) (c .args .self .now) (c .loop-q .self) (c .split .last .self) (c .loop-q .q) (c .answer-row-row .result) (c .loop-q .inv .0)
+      (λ s h. c .answer-row-row .ensures s (omega (arith, h, c .pre .long))) (c .split .ensures .divided),
+  c .split .ensures .few,
+)

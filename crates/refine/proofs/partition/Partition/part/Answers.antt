@@ -23,16 +23,19 @@ pub ghost-self : need.ghost-self
 ghost-self c =
     let p : Partition = c .args .self .now in
     let k : Cut = cut (c .args .self .now) (c .args .s) (c .args .x) (c .args .row .now) (c .pre .odd) (c .pre .inside) (search needs)
-        (c .pick-stays .result) (c .pick-leaves .result) (c .pick-stays .ensures) (c .pick-leaves .ensures) _ _ _ _ (c .conjoin-stay .ensures .conjoined) (c .conjoin-leave .ensures .conjoined) _ (c .renumber .ensures) in
+    (c .pick-stays .result) (c .pick-leaves .result) (c .pick-stays .ensures) (c .pick-leaves .ensures) _ _ _ _ (c .conjoin-stay .ensures .conjoined) (c .conjoin-leave .ensures .conjoined) _ (c .renumber .ensures) in
     (p .few, (c .conjoin-leave .ensures .room, (part-low k, (part-led k, (part-here k, (part-orderly k, (add-one (p .count) ∙ ap suc (p .counted) ∙ sym (part-leaders k), tt)))))))
 
 pub returns : need.returns
 returns c =
     let p : Partition = c .args .self .now in
     let k : Cut = cut (c .args .self .now) (c .args .s) (c .args .x) (c .args .row .now) (c .pre .odd) (c .pre .inside) (search needs)
-        (c .pick-stays .result) (c .pick-leaves .result) (c .pick-stays .ensures) (c .pick-leaves .ensures) _ _ _ _ (c .conjoin-stay .ensures .conjoined) (c .conjoin-leave .ensures .conjoined) _ (c .renumber .ensures) in
+    (c .pick-stays .result) (c .pick-leaves .result) (c .pick-stays .ensures) (c .pick-leaves .ensures) _ _ _ _ (c .conjoin-stay .ensures .conjoined) (c .conjoin-leave .ensures .conjoined) _ (c .renumber .ensures) in
     record {
       keeps = record { states = refl; questions = refl; extends = part-extends k; more = omega arith; still = λ h. absurd (omega arith) };
-      nodes = part-nodes k; count = add-one (p .count); class = c .renumber .ensures;
+      nodes = part-nodes k;
+      count = add-one (p .count);
+      class = c .renumber .ensures;
       exact = λ v w st old. part-exact k v w (st .yes) (st .no) old;
-      shallow = λ d y n old. part-shallow k d y n old }
+      shallow = λ d y n old. part-shallow k d y n old;
+    }

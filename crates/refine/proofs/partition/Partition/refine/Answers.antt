@@ -22,17 +22,18 @@ loop-c-again c =
     let q : Partition = c .loop-c .self in
     let i : ℕ = c .loop-c .c in
     elim (c .if-before-c .came) [
-      then-before-c w ↦
-        (let hv = w .split-by .ensures .halved in
-         let lead : class-of p i ≡ i = subst (λ (l : List ℕ). getD l i 0 ≡ i) (c .pre .before) (w .if-before-c .taken) in
-         let rows : (s : ℕ) → s < p .states → at (hv .row) s ≡ hits u (p .class) i s =
-             λ s h. hv .hit s (omega (arith, h, c .pre .long)) ∙ ap (λ (l : List ℕ). hits u l i s) (c .pre .before) in
-         subst (λ (r : Partition). Refining u p r (i + 1) × Few r) (sym (w .self-is))
-           (refining-step u p q i (c .loop-c .inv .0) i (getD (c .args .names .now) i 0) (c .loop-c-test .taken) lead (ap (λ (l : List ℕ). getD l i 0) (c .pre .names))
-              (inside-both (first-of (c .args .pair .now)) (second-of (c .args .pair .now)) (table-lawful (c .args .pair .now .first) .closed) (table-lawful (c .args .pair .now .second) .closed) p (c .pre .long))
-              refl (w .split-by .last .self) (hv .row) rows (hv .divided),
-            w .split-by .ensures .few))
-    | else-before-c w ↦
-        subst (λ (r : Partition). Refining u p r (i + 1) × Few r) (sym (w .self-is))
+      | then-before-c w ↦
+          (let hv = w .split-by .ensures .halved in
+          let lead : class-of p i ≡ i = subst (λ (l : List ℕ). getD l i 0 ≡ i) (c .pre .before) (w .if-before-c .taken) in
+          let rows : (s : ℕ) → s < p .states → at (hv .row) s ≡ hits u (p .class) i s =
+          λ s h. hv .hit s (omega (arith, h, c .pre .long)) ∙ ap (λ (l : List ℕ). hits u l i s) (c .pre .before) in
+          subst (λ (r : Partition). Refining u p r (i + 1) × Few r) (sym (w .self-is)) (
+            refining-step u p q i (c .loop-c .inv .0) i (getD (c .args .names .now) i 0) (c .loop-c-test .taken) lead (ap (λ (l : List ℕ). getD l i 0) (c .pre .names))
+                (inside-both (first-of (c .args .pair .now)) (second-of (c .args .pair .now)) (table-lawful (c .args .pair .now .first) .closed) (table-lawful (c .args .pair .now .second) .closed) p (c .pre .long))
+                refl (w .split-by .last .self) (hv .row) rows (hv .divided),
+            w .split-by .ensures .few,
+          ))
+      | else-before-c w ↦
+          subst (λ (r : Partition). Refining u p r (i + 1) × Few r) (sym (w .self-is))
           (refining-skip u p q i (c .loop-c .inv .0) (λ e. w .if-before-c .left (subst (λ (l : List ℕ). getD l i 0 ≡ i) (sym (c .pre .before)) e)), c .loop-c .inv .1)
     ]

@@ -21,23 +21,27 @@ part-requires c κs =
     record {
       room = omega (arith, room-left (c .loop-s .self) (c .loop-s .s) (c .args .row .now) o (c .loop-s .inv .1));
       inside = c .loop-s .inv .2;
-      odd = o }
+      odd = o;
+    }
 
 pub loop-s-again : need.loop-s-again
 loop-s-again c =
     let p : Partition = c .args .self .now in
     let q : Partition = c .loop-s .self in
     elim (c .if-not-agrees .came) [
-      then-not-agrees w ↦
-        (let o = odd-here p q (c .args .x) (c .args .row .now) (c .loop-s .s) (c .agrees .result) (c .loop-s .inv .0) (c .loop-s-test .taken) (c .agrees .ensures) (w .if-not-agrees .taken) in
-         subst (λ (r : Partition). Scanned p r (c .args .x) (c .args .row .now) (c .loop-s .s + 1) × Few r × (suc (c .args .x) < length (vec-items (r .nodes)))) (sym (w .self-is))
-           (scanned-step p q (w .part .last .self) (c .args .x) (c .args .row .now) (c .loop-s .s) (c .pre .inside) (c .loop-s .inv .0) o (w .part .ensures),
+      | then-not-agrees w ↦
+          (let o = odd-here p q (c .args .x) (c .args .row .now) (c .loop-s .s) (c .agrees .result) (c .loop-s .inv .0) (c .loop-s-test .taken) (c .agrees .ensures) (w .if-not-agrees .taken) in
+          subst (λ (r : Partition). Scanned p r (c .args .x) (c .args .row .now) (c .loop-s .s + 1) × Few r × (suc (c .args .x) < length (vec-items (r .nodes)))) (sym (w .self-is)) (
+            scanned-step p q (w .part .last .self) (c .args .x) (c .args .row .now) (c .loop-s .s) (c .pre .inside) (c .loop-s .inv .0) o (w .part .ensures),
             few-step q (w .part .last .self) (c .args .x) (c .loop-s .s) (c .args .row .now) (c .loop-s .inv .1) (w .part .ensures),
-            omega (arith, c .loop-s .inv .2, w .part .ensures .keeps .extends .longer)))
-    | else-not-agrees w ↦
-        subst (λ (r : Partition). Scanned p r (c .args .x) (c .args .row .now) (c .loop-s .s + 1) × Few r × (suc (c .args .x) < length (vec-items (r .nodes)))) (sym (w .self-is))
-          (scanned-skip p q (c .args .x) (c .args .row .now) (c .loop-s .s) (c .loop-s .inv .0) (sym (c .agrees .ensures) ∙ w .if-not-agrees .left),
-           c .loop-s .inv .1, c .loop-s .inv .2)
+            omega (arith, c .loop-s .inv .2, w .part .ensures .keeps .extends .longer),
+          ))
+      | else-not-agrees w ↦
+          subst (λ (r : Partition). Scanned p r (c .args .x) (c .args .row .now) (c .loop-s .s + 1) × Few r × (suc (c .args .x) < length (vec-items (r .nodes)))) (sym (w .self-is)) (
+            scanned-skip p q (c .args .x) (c .args .row .now) (c .loop-s .s) (c .loop-s .inv .0) (sym (c .agrees .ensures) ∙ w .if-not-agrees .left),
+            c .loop-s .inv .1,
+            c .loop-s .inv .2,
+          )
     ]
 
 pub returns : need.returns

@@ -18,7 +18,8 @@ part-requires c κs =
     record {
       room = omega (arith, room-left p (c .first-odd-s .result) (c .args .row .now) o (c .pre .few), c .begin-x .ensures .begun .count);
       inside = c .begin-x .ensures .begun .inside;
-      odd = record { state = o .state; odd = o .odd; first = o .first } }
+      odd = record { state = o .state; odd = o .odd; first = o .first };
+    }
 
 pub scan-requires : need.scan-requires
 scan-requires c κs =
@@ -32,7 +33,8 @@ scan-requires c κs =
       start = omega (arith, d .keeps .states, c .if-s-self .taken);
       inside = omega (arith, d .keeps .extends .longer, c .begin-x .ensures .begun .inside);
       sorted = start-scanned p _ (c .args .test) x st (c .part .last .self) s (c .args .row .now) o d .sorted;
-      few = start-few p _ (c .args .test) x st (c .part .last .self) s (c .args .row .now) o d (c .pre .few) }
+      few = start-few p _ (c .args .test) x st (c .part .last .self) s (c .args .row .now) o d (c .pre .few);
+    }
 
 pub returns-then-s-self : need.returns-then-s-self
 returns-then-s-self c =
@@ -43,4 +45,5 @@ returns-then-s-self c =
     let st : Started p _ (c .args .test) x = record { states = refl; questions = refl; class = refl; node = refl; count = refl; begun = c .begin-x .ensures .begun } in
     record {
       divided = divided p _ (c .args .test) x st (c .part .last .self) s (c .args .row .now) o (c .part .ensures) (c .scan .last .self) (c .scan .ensures .scanned);
-      few = c .scan .ensures .few }
+      few = c .scan .ensures .few;
+    }

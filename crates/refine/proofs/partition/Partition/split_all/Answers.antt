@@ -8,4 +8,5 @@ returns c =
     let r = c .args .pair .now in
     record {
       rounded = rounded (first-of r) (second-of r) (table-lawful (r .first) .closed) (table-lawful (r .second) .closed) (c .args .self .now) (c .refine .last .self) (c .pre .long) (c .refine .ensures .refining);
-      few = c .refine .ensures .few }
+      few = c .refine .ensures .few;
+    }

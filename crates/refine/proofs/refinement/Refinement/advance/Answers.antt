@@ -38,13 +38,25 @@ ghost-self c =
     let d = c .round-self .ensures .rounded in
     let k1 : suc k ≡ k + 1 = sym (add-one k) in
     let b0 : c .round-self .result ≡ eqb (q .count) (p .count) = c .round-self .ensures .rests in
-    let pace : suc k ≤ p .count = subst (λ (z : Bool). cond z k (suc k) ≤ p .count) (c .pre) (r .pace) in
-    (d .keeps .states ∙ r .long,
-    (d .keeps .questions ∙ r .asks,
-    (c .round-self .ensures .few,
-    (exact-told (both a b) q (d .exact (told-exact (both a b) p (r .told))),
-    (subst (λ (n : ℕ). Shallow n q) k1 (d .shallow k (r .shallow)),
-    (subst (λ (n : ℕ). Numbered a b n (q .class)) k1 (next-numbered a b la lb k p q (r .long) (r .numbered) d),
-    (b0 ∙ subst (λ (n : ℕ). eqb (q .count) (p .count) ≡ rested a b n) k1 (next-rests a b la lb k p q (r .long) (r .numbered) d),
-    (subst (λ (z : Bool). cond z (k + 1) (suc (k + 1)) ≤ q .count) (sym b0) (subst (λ (n : ℕ). cond (eqb (q .count) (p .count)) n (suc n) ≤ q .count) k1 (next-pace a b la lb k p q (r .long) (r .numbered) d pace)), tt))))))))
-
+    let pace : suc k ≤ p .count = subst (λ (z : Bool). cond z k (suc k) ≤ p .count) (c .pre) (r .pace) in (
+      d .keeps .states ∙ r .long,
+      (
+        d .keeps .questions ∙ r .asks,
+        (
+          c .round-self .ensures .few,
+          (
+            exact-told (both a b) q (d .exact (told-exact (both a b) p (r .told))),
+            (
+              subst (λ (n : ℕ). Shallow n q) k1 (d .shallow k (r .shallow)),
+              (
+                subst (λ (n : ℕ). Numbered a b n (q .class)) k1 (next-numbered a b la lb k p q (r .long) (r .numbered) d),
+                (
+                  b0 ∙ subst (λ (n : ℕ). eqb (q .count) (p .count) ≡ rested a b n) k1 (next-rests a b la lb k p q (r .long) (r .numbered) d),
+                  (subst (λ (z : Bool). cond z (k + 1) (suc (k + 1)) ≤ q .count) (sym b0) (subst (λ (n : ℕ). cond (eqb (q .count) (p .count)) n (suc n) ≤ q .count) k1 (next-pace a b la lb k p q (r .long) (r .numbered) d pace)), tt),
+                ),
+              ),
+            ),
+          ),
+        ),
+      ),
+    )

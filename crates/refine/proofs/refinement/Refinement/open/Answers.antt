@@ -26,12 +26,25 @@ ghost-result g c =
     let ask = c .ask-all .ensures .asked in
     let few = c .ask-all .ensures .few in
     let level : s .questions ≡ f .questions = c .in-Continue-second .ensures tt .questions ∙ sym (c .in-Continue-first .ensures tt .questions) in
-    let law : Lawful q b = subst (λ (n : ℕ). Lawful n b) level (table-lawful s) in
-    (ask .keeps .states ∙ one .states-is ∙ c .states .ensures .value,
-    (ask .keeps .questions ∙ one .questions-is,
-    (few,
-    (exact-told (both a b) p (ask .exact (one .exact (test (both a b)) (test-boolean (both a b)))),
-    (ask .shallow 0 (one .shallow),
-    (opening-numbered q a b (table-lawful f) law (c .states .result) o p (c .states .ensures .value) one ask,
-    (refl,
-    (omega (arith, few), tt))))))))
+    let law : Lawful q b = subst (λ (n : ℕ). Lawful n b) level (table-lawful s) in (
+      ask .keeps .states ∙ one .states-is ∙ c .states .ensures .value,
+      (
+        ask .keeps .questions ∙ one .questions-is,
+        (
+          few,
+          (
+            exact-told (both a b) p (ask .exact (one .exact (test (both a b)) (test-boolean (both a b)))),
+            (
+              ask .shallow 0 (one .shallow),
+              (
+                opening-numbered q a b (table-lawful f) law (c .states .result) o p (c .states .ensures .value) one ask,
+                (
+                  refl,
+                  (omega (arith, few), tt),
+                ),
+              ),
+            ),
+          ),
+        ),
+      ),
+    )

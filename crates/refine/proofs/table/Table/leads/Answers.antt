@@ -18,16 +18,21 @@ use Rattle.refine.proofs.table.Table.leads.Needs as need
 pub loop-v-holds : need.loop-v-holds
 loop-v-holds c =
     let t = c .args .self .now in
-    let e = c .as-slice-next .ensures .value ∙ sym (ap (λ (z : State). z .next) (row-state (t .initial) (vec-items (t .rows)) (c .args .s) (c .index .result .now) (c .pre .state) (c .index .ensures))) in
-    (λ j l. omega (arith, t .few,
-        t .inside (c .args .s) _ (c .pre .state) (subst (λ (z : List ℕ). Member (getD (c .as-slice-next .result .now) j 0) z) e (member-at (c .as-slice-next .result .now) j l))),
-     λ j l. absurd (omega arith))
+    let e = c .as-slice-next .ensures .value ∙ sym (ap (λ (z : State). z .next) (row-state (t .initial) (vec-items (t .rows)) (c .args .s) (c .index .result .now) (c .pre .state) (c .index .ensures))) in (
+      λ j l. omega (
+        arith,
+        t .few,
+        t .inside (c .args .s) _ (c .pre .state) (subst (λ (z : List ℕ). Member (getD (c .as-slice-next .result .now) j 0) z) e (member-at (c .as-slice-next .result .now) j l)),
+      ),
+      λ j l. absurd (omega arith),
+    )
 
 pub loop-v-again : need.loop-v-again
-loop-v-again c =
-    (c .loop-v .inv .0,
-     below-more (λ j. eqb (getD (c .args .class .now) (c .args .low + getD (c .as-slice-next .result .now) j 0) 0) (c .args .c) ≡ false) (c .loop-v .v-index)
-       (c .loop-v .inv .1) (ne-eqb _ _ (c .if-class-low .left)))
+loop-v-again c = (
+  c .loop-v .inv .0,
+  below-more (λ j. eqb (getD (c .args .class .now) (c .args .low + getD (c .as-slice-next .result .now) j 0) 0) (c .args .c) ≡ false) (c .loop-v .v-index)
+      (c .loop-v .inv .1) (ne-eqb _ _ (c .if-class-low .left)),
+)
 
 pub returns-then-class-low : need.returns-then-class-low
 returns-then-class-low c =
