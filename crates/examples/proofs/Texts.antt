@@ -18,12 +18,12 @@ use Rattle.kripke.proofs.Reflect.{T-true, and-T}
 use Rattle.reader.specs.Tokens.{Stream, done, next, tokens, first, offset, rest, kinds, After}
 use Rattle.reader.specs.Grammar.{Mark, mark, marks, toks, whole, Sentence, Asked, All, Within}
 use Rattle.reader.specs.Table.{table}
-use Rattle.reader.specs.Breaches.{Breach, Sooner}
+use Rattle.reader.specs.Breaches.{Limited, Breach, Sooner}
 use Rattle.reader.specs.Phrases as why
 use Rattle.reader.specs.declared.token.Token.{Token}
 use Rattle.reader.specs.declared.token.Token.the-variants as token
 use Rattle.reader.proofs.Lawful.{well-formed}
-use Rattle.reader.proofs.Verdicts.{Limited, one-formula, clean, told}
+use Rattle.reader.proofs.Verdicts.{one-formula, clean, told}
 use Rattle.examples.specs.Rows.{Read}
 use Rattle.examples.proofs.Tests.{asked, limited, skip}
 
