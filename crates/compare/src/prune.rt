@@ -97,7 +97,7 @@ fn copy(parts: &Partition, root: usize, reached: &[bool; 2048], out: &mut Vec<No
 }
 
 // The nodes that the root reaches, in their order, renumbered.
-pub fn prune(parts: &Partition, root: usize, out: &mut Vec<Node>)
+pub(crate) fn prune(parts: &Partition, root: usize, out: &mut Vec<Node>)
     requires few { ⌜ length (vec-items (now parts .nodes)) ≤ 2045 ⌝ }
     requires inside { ⌜ root < length (vec-items (now parts .nodes)) ⌝ }
     requires empty { ⌜ vec-items (now out) ≡ [] ⌝ }

@@ -37,7 +37,7 @@ fn class_at(stages: &Refinement, s: usize) -> usize
 }
 
 // Are the initial states in different classes?
-pub fn differs(stages: &Refinement) -> bool
+pub(crate) fn differs(stages: &Refinement) -> bool
     ensures { λ r. ⌜ r ≡ not (level (first (now (stages .entry))) (second (now (stages .entry))) (now (stages .entry) .rounds)) ⌝ }
 {
     let one = class_at(stages, first_state(stages));
@@ -46,7 +46,7 @@ pub fn differs(stages: &Refinement) -> bool
 }
 
 // Is the comparison closed: as different, or as alike since the last round split nothing?
-pub fn is_closed(stages: &Refinement) -> bool
+pub(crate) fn is_closed(stages: &Refinement) -> bool
     ensures { λ r. ⌜ r ≡ closed (first (now (stages .entry))) (second (now (stages .entry))) (now (stages .entry) .rounds) ⌝ }
 {
     differs(stages) || stages.rests
@@ -60,7 +60,7 @@ fn root(stages: &Refinement) -> usize
 }
 
 // Keeps the formula of the first initial state's class, with its parts alone, if the initial states differ.
-pub fn keep(stages: &Refinement, formula: &mut Vec<Node>)
+pub(crate) fn keep(stages: &Refinement, formula: &mut Vec<Node>)
     requires { ⌜ 2048 ≤ vec-cap (now formula) ⌝ }
     ensures kept { λ _. ⌜ Kept (now (stages .entry)) (vec-items (now (formula .exit))) ⌝ }
     ensures room { λ _. ⌜ 2048 ≤ vec-cap (now (formula .exit)) ⌝ }

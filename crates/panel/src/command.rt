@@ -128,7 +128,7 @@ fn on_file(rt: &LibcRuntime, path: &str, task: Task, text: &str) -> Result<Strin
 }
 
 // What the command of these words answers. The first word is the program's name.
-pub fn run(rt: &LibcRuntime, words: &[String]) -> Result<String, Failure> {
+pub(crate) fn run(rt: &LibcRuntime, words: &[String]) -> Result<String, Failure> {
     let heap = rt.alloc();
     match (word(words, 1), word(words, 2), words.len()) {
         ("--help", _, _) => told(heap, USAGE),

@@ -21,7 +21,7 @@ const TRUTH: Node = Node {
 };
 
 // The nodes of a condition on so many questions.
-pub fn nodes_of(heap: Global, text: &str, questions: usize) -> Result<Vec<Node>, Failure> {
+pub(crate) fn nodes_of(heap: Global, text: &str, questions: usize) -> Result<Vec<Node>, Failure> {
     let mut nodes = vec![in heap; TRUTH; NODES]?;
     match read_formula(text.as_bytes(), questions, nodes.as_mut_slice()) {
         Ok(count) => {
@@ -33,7 +33,7 @@ pub fn nodes_of(heap: Global, text: &str, questions: usize) -> Result<Vec<Node>,
 }
 
 // Whether state s is marked in the last row of a table of rows.
-pub fn in_last_row(rows: &[u64], s: usize) -> bool {
+pub(crate) fn in_last_row(rows: &[u64], s: usize) -> bool {
     let word = rows.len().saturating_sub(4).saturating_add(s / 64);
     match rows.get(word) {
         Some(bits) => (bits >> (s % 64)) & 1 == 1,
@@ -42,7 +42,7 @@ pub fn in_last_row(rows: &[u64], s: usize) -> bool {
 }
 
 // Whether the condition holds at the initial state, and at which states it holds.
-pub fn check<M: Model>(heap: Global, model: &M, text: &str) -> Result<String, Failure> {
+pub(crate) fn check<M: Model>(heap: Global, model: &M, text: &str) -> Result<String, Failure> {
     let nodes = nodes_of(heap, text, M::Label::questions())?;
     let mut rows = vec![in heap; 0u64; nodes.len().saturating_mul(4)]?;
     let found = match evaluate(model, nodes.as_slice(), rows.as_mut_slice()) {

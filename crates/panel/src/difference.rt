@@ -130,7 +130,7 @@ fn of_kind<L: Coded>(heap: Global, old: &[u8], new: &[u8]) -> Result<String, Fai
 }
 
 // Compares two images; the first one's kind is asked of both.
-pub fn compare(heap: Global, old: &[u8], new: &[u8]) -> Result<String, Failure> {
+pub(crate) fn compare(heap: Global, old: &[u8], new: &[u8]) -> Result<String, Failure> {
     match old.first() {
         Some(2) => of_kind::<Reading>(heap, old, new),
         _ => of_kind::<SignalWord>(heap, old, new),

@@ -31,7 +31,7 @@ fn push_state<M: Model>(out: &mut String, model: &M, s: usize) -> Result<(), Fai
 }
 
 // The kind, the number of states and the initial state, and then a line a state.
-pub fn listing<M: Model>(heap: Global, kind: &str, model: &M) -> Result<String, Failure> {
+pub(crate) fn listing<M: Model>(heap: Global, kind: &str, model: &M) -> Result<String, Failure> {
     let mut out = String::new(heap);
     let states = model.states();
     let initial = model.initial();
@@ -59,7 +59,7 @@ fn push_edges<M: Model>(out: &mut String, model: &M, s: usize) -> Result<(), Fai
 }
 
 // The graph of the model, the initial state in a double circle, labels as the questions answered yes.
-pub fn graph<M: Model>(heap: Global, model: &M) -> Result<String, Failure> {
+pub(crate) fn graph<M: Model>(heap: Global, model: &M) -> Result<String, Failure> {
     let mut out = String::new(heap);
     out.push_str("digraph panel {\n")?;
     for s in 0..model.states() {

@@ -45,7 +45,11 @@ fn perform<M: Model>(
 }
 
 // The model of an image, or the refusal in words.
-pub fn load<L: Coded>(heap: Global, image: &[u8], slot: Slot) -> Result<StoredModel<L>, Failure> {
+pub(crate) fn load<L: Coded>(
+    heap: Global,
+    image: &[u8],
+    slot: Slot,
+) -> Result<StoredModel<L>, Failure> {
     let mut model = StoredModel::new(heap)?;
     match model.load(heap, image, slot) {
         Ok(()) => Ok(model),
@@ -56,7 +60,12 @@ pub fn load<L: Coded>(heap: Global, image: &[u8], slot: Slot) -> Result<StoredMo
     }
 }
 
-pub fn on_image(heap: Global, image: &[u8], task: Task, text: &str) -> Result<String, Failure> {
+pub(crate) fn on_image(
+    heap: Global,
+    image: &[u8],
+    task: Task,
+    text: &str,
+) -> Result<String, Failure> {
     match image.first() {
         Some(2) => perform(
             heap,
@@ -75,7 +84,7 @@ pub fn on_image(heap: Global, image: &[u8], task: Task, text: &str) -> Result<St
     }
 }
 
-pub fn on_rules(
+pub(crate) fn on_rules(
     heap: Global,
     bits: usize,
     initial: usize,

@@ -32,7 +32,7 @@ fn yes_or_no(holds: bool) -> &'static str {
 
 // From the initial states down to a question that the two panels answer differently. A formula that holds at one state and fails at the
 // other is taken apart: of a conjunction the part that fails, of EX a step to a state where the rest holds, against any step of the other.
-pub fn trial<M: Model, N: Model>(
+pub(crate) fn trial<M: Model, N: Model>(
     heap: Global,
     nodes: &[Node],
     old: &M,

@@ -73,7 +73,11 @@ fn push_place(out: &mut String, refusal: &Refusal) -> Result<(), Failure> {
 }
 
 // The refusal of an image, as "image 2, byte 24: state record 2 has limits that do not rise (refusal 4)".
-pub fn image_refused(heap: Global, image: &[u8], refusal: &Refusal) -> Result<String, Failure> {
+pub(crate) fn image_refused(
+    heap: Global,
+    image: &[u8],
+    refusal: &Refusal,
+) -> Result<String, Failure> {
     let mut out = String::new(heap);
     let number = refusal.number();
     push_place(&mut out, refusal)?;
@@ -88,7 +92,7 @@ pub fn image_refused(heap: Global, image: &[u8], refusal: &Refusal) -> Result<St
 }
 
 // Any other refusal.
-pub fn refused(heap: Global, refusal: &Refusal) -> Result<String, Failure> {
+pub(crate) fn refused(heap: Global, refusal: &Refusal) -> Result<String, Failure> {
     let mut out = String::new(heap);
     let number = refusal.number();
     let words = cause_in_words(refusal.cause);
@@ -98,7 +102,11 @@ pub fn refused(heap: Global, refusal: &Refusal) -> Result<String, Failure> {
 }
 
 // A refused condition: its text, a caret under the place, and why.
-pub fn condition_refused(heap: Global, text: &str, refusal: &Refusal) -> Result<String, Failure> {
+pub(crate) fn condition_refused(
+    heap: Global,
+    text: &str,
+    refusal: &Refusal,
+) -> Result<String, Failure> {
     let mut out = String::new(heap);
     writeln!(out, "{text}")?;
     for _ in 0..refusal.place.min(text.len()) {

@@ -13,7 +13,7 @@ pub enum Signs {
 }
 
 // The signs of the operator with this code.
-pub fn signs_of(code: u8) -> Signs
+pub(crate) fn signs_of(code: u8) -> Signs
     requires { ⌜ code < 13 ⌝ }
     ensures { λ r. ⌜ Written (getD operators code constant) r ⌝ }
 {

@@ -54,7 +54,7 @@ fn put_question(heap: Global, out: &mut String, question: u16) -> Result<(), Sto
 }
 
 // Appends the formula of node i, which may have so many levels.
-pub fn write(
+pub(crate) fn write(
     heap: Global,
     nodes: &[Node],
     i: usize,

@@ -23,7 +23,7 @@ pub enum Head {
 }
 
 // What the token begins.
-pub fn head_of(token: Token) -> Option<Head>
+pub(crate) fn head_of(token: Token) -> Option<Head>
     ensures { λ r. ⌜ r ≡ headOf token ⌝ }
 {
     match token {
@@ -37,7 +37,7 @@ pub fn head_of(token: Token) -> Option<Head>
 }
 
 // Whether the number of a question is below the count.
-pub fn asked(head: Head, questions: usize) -> bool
+pub(crate) fn asked(head: Head, questions: usize) -> bool
     ensures { λ r. ⌜ Answerable questions head r ⌝ }
 {
     match head {
@@ -47,7 +47,7 @@ pub fn asked(head: Head, questions: usize) -> bool
 }
 
 // The node code of an operator of one argument.
-pub fn unary_code(operator: Unary) -> u8
+pub(crate) fn unary_code(operator: Unary) -> u8
     ensures { λ r. ⌜ r ≡ appliedCode operator ⌝ }
 {
     match operator {

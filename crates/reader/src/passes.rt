@@ -42,7 +42,7 @@ fn check_nodes(text: &[u8], questions: usize, room: usize) -> Result<(), Refusal
 }
 
 // The first pass, which writes nothing: all that can be refused.
-pub fn check_text(text: &[u8], questions: usize, room: usize) -> Result<(), Refusal>
+pub(crate) fn check_text(text: &[u8], questions: usize, room: usize) -> Result<(), Refusal>
     ensures { λ r. ⌜ Cases r (λ _. (f : Formula) × Readable (now (text .entry)) questions room f) (λ e. Refuses (now (text .entry)) questions room e) ⌝ }
 {
     check_limits(text, questions)?;
@@ -50,7 +50,11 @@ pub fn check_text(text: &[u8], questions: usize, room: usize) -> Result<(), Refu
 }
 
 // The second pass, which writes the nodes.
-pub fn write_nodes(text: &[u8], questions: usize, places: &mut [Node]) -> Result<usize, Refusal>
+pub(crate) fn write_nodes(
+    text: &[u8],
+    questions: usize,
+    places: &mut [Node],
+) -> Result<usize, Refusal>
     requires { ⌜ ((f : Formula) × Readable (now text) questions (length (now places)) f) ⌝ }
     ensures judged { λ r. ⌜ JudgedBy Sooner (Breach (now (text .entry)) questions (length (now (places .entry)))) Text (Reads (now (text .entry)) questions (now (places .entry)) (now (places .exit))) (now (places .exit) ≡ now (places .entry)) r ⌝ }
     ensures complete { λ r. ⌜ Complete (now (text .entry)) questions (length (now (places .entry))) r ⌝ }

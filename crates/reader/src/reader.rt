@@ -34,7 +34,7 @@ pub struct Reader<'a> {
 }
 
 // A refusal by the reader.
-pub fn refusal(cause: Cause, place: usize) -> Refusal
+pub(crate) fn refusal(cause: Cause, place: usize) -> Refusal
     ensures { λ r. ⌜ (r .cause ≡ cause) × (r .layer ≡ Text) × (r .place ≡ place) ⌝ }
 {
     Refusal {
@@ -234,7 +234,11 @@ impl<'a> Reader<'a> {
 }
 
 // The text as a whole: the number of nodes of its formula, which are written as far as there are places for them.
-pub fn read_whole(text: &[u8], questions: usize, places: &mut [Node]) -> Result<usize, Refusal>
+pub(crate) fn read_whole(
+    text: &[u8],
+    questions: usize,
+    places: &mut [Node],
+) -> Result<usize, Refusal>
     requires { ⌜ length (now text) ≤ 4096 ⌝ }
     ensures { λ r. ⌜ Parsed (now (text .entry)) questions (now (places .entry)) (now (places .exit)) r ⌝ }
 {

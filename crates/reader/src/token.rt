@@ -49,7 +49,7 @@ pub enum Token {
 }
 
 // Whether the token is the given sign.
-pub fn is_sign(token: Token, sign: Sign) -> bool
+pub(crate) fn is_sign(token: Token, sign: Sign) -> bool
     ensures { λ r. ⌜ Decided (token ≡ Token.Sign sign) r ⌝ }
 {
     match token {
@@ -105,7 +105,7 @@ fn leading_number(text: &[u8]) -> Option<(u8, usize)>
 }
 
 // The first token of a text, and the text after it.
-pub fn split_token(text: &[u8]) -> (Token, &[u8])
+pub(crate) fn split_token(text: &[u8]) -> (Token, &[u8])
     ensures { λ r. ⌜ (r .0 ≡ lex (now (text .entry)) .0) × (now (r .1) ≡ drop (lex (now (text .entry)) .1) (now (text .entry))) ⌝ }
 {
     match text {

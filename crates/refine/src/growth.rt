@@ -13,7 +13,7 @@ const NOT: u8 = 2;
 const AND: u8 = 3;
 
 // Adds the test and its negation; the number of the test.
-pub fn begin(nodes: &mut Vec<Node>, test: Node) -> u16
+pub(crate) fn begin(nodes: &mut Vec<Node>, test: Node) -> u16
     requires few { ⌜ length (vec-items (now nodes)) + 2 ≤ 2048 ⌝ }
     requires room { ⌜ 2048 ≤ vec-cap (now nodes) ⌝ }
     ensures begun { λ r. ⌜ Begun (vec-items (now (nodes .entry))) (vec-items (now (nodes .exit))) test r ⌝ }
@@ -30,7 +30,7 @@ pub fn begin(nodes: &mut Vec<Node>, test: Node) -> u16
 }
 
 // The number of a node for `a and b`: b itself where a is `true`, else a new one.
-pub fn conjoin(nodes: &mut Vec<Node>, a: u16, b: u16) -> u16
+pub(crate) fn conjoin(nodes: &mut Vec<Node>, a: u16, b: u16) -> u16
     requires few { ⌜ length (vec-items (now nodes)) + 1 ≤ 2048 ⌝ }
     requires room { ⌜ 2048 ≤ vec-cap (now nodes) ⌝ }
     requires first { ⌜ a < length (vec-items (now nodes)) ⌝ }

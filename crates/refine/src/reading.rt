@@ -46,7 +46,10 @@ fn row<L: Label, M: Model<Label = L>>(heap: Global, model: &M, s: usize) -> Resu
 }
 
 // The whole model, asked state by state.
-pub fn read<L: Label, M: Model<Label = L>>(heap: Global, model: &M) -> Result<Table, AllocError>
+pub(crate) fn read<L: Label, M: Model<Label = L>>(
+    heap: Global,
+    model: &M,
+) -> Result<Table, AllocError>
     ensures structure { λ r. ⌜ made r (λ t. structure (t .initial) (vec-items (t .rows)) ≡ M·Model .meaning (now (model .entry))) ⌝ }
     ensures questions { λ r. ⌜ made r (λ t. t .questions ≡ L·Label .count) ⌝ }
 {
