@@ -115,7 +115,7 @@ fn compares(rt: LibcRuntime) -> Result<(), Fail> {
     let heap = rt.alloc();
     answers(
         compare(heap, &WAITS, &WAITS),
-        "alike after 2 rounds (2 and 2 states): no condition of any size tells the two panels apart\n",
+        "alike after 1 rounds (2 and 2 states): no condition of any size tells the two panels apart\n",
     )?;
     answers(
         compare(heap, &WAITS, &FLAT),
