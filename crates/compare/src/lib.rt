@@ -1,5 +1,7 @@
 // The comparison of two models: opening, rounds and readings, and any list of requests.
 
+#![tactic(auto)]
+
 mod calls;
 pub mod comparison;
 mod prune;

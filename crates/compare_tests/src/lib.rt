@@ -1,5 +1,7 @@
 // Tests of the comparison: stored models of both kinds, rule models, one of each, and models of 256 states.
 
+#![tactic(auto)]
+
 #[cfg(test)]
 mod tests {
     use compare::comparison::Comparison;

@@ -1,5 +1,7 @@
 // Decides CTL formulas on any model: at which states the formula of each node of a table holds.
 
+#![tactic(auto)]
+
 ghost use Rattle.evaluator.specs.Breaches.{Breach};
 ghost use Rattle.evaluator.specs.Evaluated.{Evaluated};
 ghost use Rattle.kripke.specs.Refusals.{Judged};

@@ -1,5 +1,7 @@
 // Tests of rule models, and of the evaluator at rule and stored models. What is refused must leave all as it was.
 
+#![tactic(auto)]
+
 #[cfg(test)]
 mod tests {
     use evaluator::evaluate;

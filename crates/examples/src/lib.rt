@@ -1,4 +1,6 @@
 // The bench table: worked examples, proved as rows of one table.
+#![tactic(auto)]
+
 ghost use Rattle.examples.specs.Rows.{Each};
 ghost use Rattle.examples.specs.Table.{table};
 

@@ -1,5 +1,7 @@
 // The model that is loaded from a stored image.
 
+#![tactic(auto)]
+
 mod check;
 pub mod slot;
 pub mod stored;

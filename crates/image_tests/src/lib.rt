@@ -1,5 +1,7 @@
 // Tests of the loader at the boundary of each refusal. Every refused load must leave the holder as it was.
 
+#![tactic(auto)]
+
 #[cfg(test)]
 mod tests {
     use image::slot::Slot;

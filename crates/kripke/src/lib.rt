@@ -1,5 +1,7 @@
 // The traits of labels and models, the refusals, and the mathematics of comparison.
 
+#![tactic(auto)]
+
 pub mod label;
 pub mod model;
 pub mod node;

@@ -1,5 +1,7 @@
 // The label kinds of panels.
 
+#![tactic(auto)]
+
 pub mod coded;
 pub mod reading;
 pub mod signal;

@@ -1,4 +1,6 @@
 // Reads two images, one after the other, from standard input, compares them, and prints the report or the refusal.
+#![tactic(auto)]
+
 use pair_job::job::compare_images;
 use std::io;
 use std::io::{Read, Write};

@@ -1,5 +1,7 @@
 // Tests of the pair job: reports of different models, refusals of either image, and inputs cut short.
 
+#![tactic(auto)]
+
 #[cfg(test)]
 mod tests {
     use pair_job::job::compare_images;

@@ -1,4 +1,6 @@
 // The engineer's tool: compares two panels, checks a condition, shows a model.
+#![tactic(auto)]
+
 use crate::failure::Failure;
 use std::{env, io};
 

@@ -1,5 +1,7 @@
 // The printer of formulas: node tables, as texts of the grammar.
 
+#![tactic(auto)]
+
 ghost use Rattle.kripke.specs.Nodes.{WellFormed};
 ghost use Rattle.printer.specs.Printed.{Printed};
 ghost use Rattle.printer.specs.Theorems.{ReadBack};

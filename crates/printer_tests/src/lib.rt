@@ -1,5 +1,7 @@
 // Tests of the printer: what it prints is read back as the same formula.
 
+#![tactic(auto)]
+
 #[cfg(test)]
 mod tests {
     use kripke::node::Node;

@@ -1,5 +1,7 @@
 // The reader of formulas: the texts of the grammar, as node tables.
 
+#![tactic(auto)]
+
 ghost use Rattle.kripke.specs.Refusals.{JudgedBy};
 ghost use Rattle.kripke.specs.declared.refusal.Layer.TheVariants.{Text};
 ghost use Rattle.reader.specs.Breaches.{Breach, Complete, Reads, Sooner};

@@ -1,5 +1,7 @@
 // Two models read into tables, and their states split into classes, round by round.
 
+#![tactic(auto)]
+
 mod asking;
 mod growth;
 pub mod pair;

@@ -1,4 +1,6 @@
 // The report of a comparison, as a value and as text.
 
+#![tactic(auto)]
+
 pub mod report;
 pub mod write;

@@ -5,4 +5,4 @@ use Rattle.kripke.proofs.label.Label.telling.Given as goal
 
 abbrev pub invariant-loop-i : goal.invariant-loop-i
 invariant-loop-i g l =
-    (l.i-end ≡ g.Self-as-Label.count) × ((j : ℕ) → j < l.i → Agree (g.Self-as-Label.answers l.self) (g.Self-as-Label.answers l.other) j)
+    (l.i-end ≡ g.Self.Label.count) × ((j : ℕ) → j < l.i → Agree (g.Self.Label.answers l.self) (g.Self.Label.answers l.other) j)
