@@ -1,6 +1,5 @@
 use Rattle.std.proofs.Common.{ℕ, List, sym, subst}
 use Rattle.kripke.specs.Ctl.{truth}
-use Rattle.kripke.specs.Structure.{Kripke}
 use Rattle.evaluator.specs.Rows.{Tells}
 use Rattle.evaluator.specs.Marks.{marks}
 use Rattle.evaluator.proofs.Meanings.{by_code, is_true, is_question, is-not, is_and, is_or, is_ex, is_ax, is-ef, is-af, is_eg, is_ag, is_eu, is_au}

@@ -1,4 +1,4 @@
-use Rattle.std.proofs.Common.{ℕ, ◌^◌, ◌<◌, ◌≤◌, List, get_or, arith, w64, Fits, rules}
+use Rattle.std.proofs.Common.{ℕ, ◌^◌, ◌<◌, ◌≤◌, List, get_or, arith, w64, Fits}
 use lib.Count.{ones, ones-le}
 use Rattle.evaluator.proofs.Tallies.{row_tally}
 use Rattle.evaluator.proofs.row.count.Goals as goal

@@ -1,8 +1,5 @@
-use Rattle.std.proofs.Common.{◌≡◌, ℕ, ◌<◌, ◌≤◌, true, length, sym, ◌∙◌, subst, ⊎_elim, arith, eqb-true}
+use Rattle.std.proofs.Common.{length, sym, ◌∙◌, ⊎_elim, arith, eqb-true}
 use borrow.Author.Tests.{eqb-false}
-use Rattle.kripke.specs.Refusals.{Judged}
-use Rattle.kripke.specs.declared.refusal.Layer.TheVariants as layer
-use Rattle.evaluator.specs.Breaches.{Breach}
 use Rattle.evaluator.specs.Marks.{Ready}
 use Rattle.evaluator.proofs.Breaches.{first_count, first-node, first-words, clean}
 use Rattle.evaluator.proofs.table.check.Goals as goal
