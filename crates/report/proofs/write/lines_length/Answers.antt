@@ -1,4 +1,4 @@
-use Rattle.std.proofs.Common.{length, get_or, take, sym, ap, ◌∙◌, arith}
+use Rattle.std.proofs.Common.{length, get_or, take, ap, ◌∙◌, arith}
 use Rattle.std.proofs.lemmas.List.{length-append, take_all}
 use Rattle.kripke.specs.Nodes.{blank}
 use Rattle.report.specs.Text.{node_lines, node_line}

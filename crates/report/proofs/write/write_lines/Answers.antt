@@ -1,7 +1,6 @@
 use Rattle.std.proofs.Common.{suc, ◌+◌, ◌≤◌, length, get_or, take, drop, sym, ap}
 use mathlib.Core.Path.{subst⁻¹}
 use Rattle.std.proofs.lemmas.List.{take_all}
-use Rattle.kripke.specs.Nodes.{blank}
 use Rattle.report.specs.Text.{node_lines, node_line}
 use Rattle.report.proofs.Putting.{then, first_fits, rest_fits, puts_same}
 use Rattle.report.proofs.Lines.{lines_more, lines_split}
