@@ -1,5 +1,5 @@
 -- Which breach of a table is told first, and that a table that is ready has none.
-use Rattle.std.proofs.Common.{◌≡◌, ℕ, ◌*◌, ◌<◌, ◌≤◌, List, length, get_or, refl, ⊎_elim, arith}
+use Rattle.std.proofs.Common.{ℕ, ◌*◌, ◌<◌, ◌≤◌, List, length, get_or, refl, ⊎_elim, arith}
 use Rattle.kripke.specs.Nodes.{LawfulNode, WellFormed, blank}
 use Rattle.kripke.specs.Refusals.{Before, Clean, First}
 use Rattle.kripke.specs.declared.node.Node.{Node}

@@ -1,9 +1,9 @@
 -- From the marks of a node's operands to its formula, one lemma an operator.
-use Rattle.std.proofs.Common.{◌≡◌, ℕ, ◌<◌, ◌≤◌, Bool, true, false, ◌&&◌, ◌||◌, ltb, ◌↔◌, List, get_or, sym, refl, ap, ◌∙◌, subst, ap₂, inl, inr, ⊎_elim, arith}
+use Rattle.std.proofs.Common.{◌≡◌, ℕ, ◌<◌, Bool, true, false, ◌&&◌, ◌||◌, ltb, ◌↔◌, get_or, sym, ap, ◌∙◌, subst, ap₂, inl, inr, ⊎_elim, arith}
 use Rattle.std.proofs.lemmas.Bool.{both_ways, cases_Bool, lt-ltb, le-ltb, and_parts, and_from, or_cases, or_left, or_right, and_left}
 use Rattle.kripke.specs.Structure.{Kripke, Lawful, answer, size}
 use Rattle.kripke.specs.Ctl.{Path, Next, Until, Always, Anything, Holds, Formula, truth, question, and, or, EX, AX, EF, AF, EG, AG, EU, AU}
-use Rattle.kripke.specs.Nodes.{Operator, operators, constant}
+use Rattle.kripke.specs.Nodes.{operators, constant}
 use Rattle.evaluator.specs.Rows.{Tells}
 use Rattle.evaluator.specs.Marks.{Marked, Paths, Trim, Whole, Divides, Applies}
 use Rattle.kripke.proofs.Walks.{path_inside}

@@ -1,5 +1,5 @@
 -- How many numbers pass a test, and that `count_ones` counts the bits of a word.
-use Rattle.std.proofs.Common.{◌≡◌, ℕ, zero, suc, ◌+◌, ◌*◌, ◌/◌, ◌%◌, ◌^◌, ◌<◌, ◌≤◌, Bool, true, false, cond, eqb, List, length, get_or, sym, refl, ap, ◌∙◌, ap₂, ⊎_elim, add-zero, add_assoc, add-suc, pow-suc, zero-add, div-one, arith}
+use Rattle.std.proofs.Common.{◌≡◌, ℕ, zero, suc, ◌+◌, ◌*◌, ◌/◌, ◌%◌, ◌^◌, ◌<◌, ◌≤◌, Bool, true, false, cond, eqb, List, get_or, sym, refl, ap, ◌∙◌, ap₂, ⊎_elim, add-zero, add_assoc, add-suc, pow-suc, zero-add, div-one, arith}
 use Rattle.std.proofs.lemmas.Bool.{cases_eq}
 use lib.Count.{ones, ones_in, ones_step}
 use Rattle.std.proofs.lemmas.Nat.{shr-shr, mod_below}

@@ -1,5 +1,5 @@
 -- Until, on each path or on some path: a step that marks a state is right, and where no step is left the unmarked states have it not.
-use Rattle.std.proofs.Common.{◌≡◌, ℕ, zero, suc, ◌<◌, ◌≤◌, Bool, true, false, not, ◌⊎◌, sym, refl, ap, ◌∙◌, inl, inr, ⊎_elim, arith}
+use Rattle.std.proofs.Common.{◌≡◌, ℕ, zero, suc, ◌<◌, Bool, true, false, not, ◌⊎◌, sym, refl, ap, ◌∙◌, inl, inr, ⊎_elim, arith}
 use Rattle.std.proofs.lemmas.Bool.{both_ways, cases_Bool}
 use Rattle.kripke.specs.Structure.{Kripke, Closed, Member, size, successors}
 use Rattle.kripke.specs.Ctl.{Path, Until}

@@ -33,7 +33,7 @@ pub fn evaluate<M: Model>(
     nodes: &[Node],
     words: &mut [u64],
 ) -> Result<Evaluation, Refusal>
-    ensures { Judged (Breach Label-as-Label.count nodes.now (length words.old)) layer.Evaluation (λ e. Evaluated (meaning model.now) nodes.now words.old words.new e) (words.new ≡ words.old) result }
+    ensures { Judged (Breach M.Label.count nodes.now (length words.old)) layer.Evaluation (λ e. Evaluated (M.meaning model.now) nodes.now words.old words.new e) (words.new ≡ words.old) result }
 {
     check(M::Label::questions(), nodes, words.len())?;
     fill(model, nodes, words);

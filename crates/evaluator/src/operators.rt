@@ -11,8 +11,8 @@ use kripke::node::Node;
 
 // Whether each successor of s is marked, or some successor.
 fn onward<M: Model>(model: &M, each: bool, s: usize, row: &[u64]) -> bool
-    requires { (length row.now ≡ 4) × (s < size (meaning model.now)) }
-    ensures { result ≡ steps each (marks row.now) (successors (meaning model.now) s) }
+    requires { (length row.now ≡ 4) × (s < size (M.meaning model.now)) }
+    ensures { result ≡ steps each (marks row.now) (successors (M.meaning model.now) s) }
 {
     for i in 0..model.degree(s) {
         if marked(row, model.successor(s, i)) != each {
@@ -25,7 +25,7 @@ fn onward<M: Model>(model: &M, each: bool, s: usize, row: &[u64]) -> bool
 // The states whose label answers a question with yes.
 fn ask<M: Model>(model: &M, question: usize, row: &mut [u64])
     requires { length row.old ≡ 4 }
-    ensures { (s : ℕ) → s < 256 → marks row.new s ≡ (nat_lt s (size (meaning model.now)) && answer (meaning model.now) s question) }
+    ensures { (s : ℕ) → s < 256 → marks row.new s ≡ (nat_lt s (size (M.meaning model.now)) && answer (M.meaning model.now) s question) }
 {
     row.fill(0);
     for s in 0..model.states() {
@@ -38,7 +38,7 @@ fn ask<M: Model>(model: &M, question: usize, row: &mut [u64])
 // EX f, and AX f where each path counts.
 fn next<M: Model>(model: &M, each: bool, f: [u64; 4], row: &mut [u64])
     requires { length row.old ≡ 4 }
-    ensures { Divides (meaning model.now) each (Next (Marked (marks f))) (marks row.new) }
+    ensures { Divides (M.meaning model.now) each (Next (Marked (marks f))) (marks row.new) }
 {
     row.fill(0);
     for s in 0..model.states() {
@@ -51,7 +51,7 @@ fn next<M: Model>(model: &M, each: bool, f: [u64; 4], row: &mut [u64])
 // Marks, from the last state down, each state of f that steps to marked states. Tells whether it marked one.
 fn sweep<M: Model>(model: &M, each: bool, f: [u64; 4], row: &mut [u64]) -> bool
     requires { length row.old ≡ 4 }
-    ensures { Sweeps (meaning model.now) each (marks f) (marks row.old) (marks row.new) result }
+    ensures { Sweeps (M.meaning model.now) each (marks f) (marks row.old) (marks row.new) result }
 {
     let mut changed = false;
     for s in (0..model.states()).rev() {
@@ -66,7 +66,7 @@ fn sweep<M: Model>(model: &M, each: bool, f: [u64; 4], row: &mut [u64]) -> bool
 // E[f U g], and A[f U g] where each path counts: sweeps from g on, until one marks nothing.
 fn until<M: Model>(model: &M, each: bool, f: [u64; 4], g: [u64; 4], row: &mut [u64])
     requires { length row.old ≡ 4 }
-    ensures { Trim (meaning model.now) (marks g) → Divides (meaning model.now) each (Until (Marked (marks f)) (Marked (marks g))) (marks row.new) }
+    ensures { Trim (M.meaning model.now) (marks g) → Divides (M.meaning model.now) each (Until (Marked (marks f)) (Marked (marks g))) (marks row.new) }
 {
     row.copy_from_slice(&g);
     while sweep(model, each, f, row) {}
@@ -74,8 +74,8 @@ fn until<M: Model>(model: &M, each: bool, f: [u64; 4], g: [u64; 4], row: &mut [u
 
 // EG f, and AG f where each path counts: a state has it where not each path (not some path) comes to a state that lacks f.
 fn always<M: Model>(model: &M, each: bool, full: [u64; 4], f: [u64; 4], row: &mut [u64])
-    requires { (length row.old ≡ 4) × (Whole (meaning model.now) (marks full)) }
-    ensures { Trim (meaning model.now) (marks f) → Divides (meaning model.now) each (Always (Marked (marks f))) (marks row.new) }
+    requires { (length row.old ≡ 4) × (Whole (M.meaning model.now) (marks full)) }
+    ensures { Trim (M.meaning model.now) (marks f) → Divides (M.meaning model.now) each (Always (Marked (marks f))) (marks row.new) }
 {
     let mut lacking = [0; 4];
     differ(full, f, &mut lacking);
@@ -93,8 +93,8 @@ pub(crate) fn apply<M: Model>(
     b: [u64; 4],
     row: &mut [u64],
 )
-    requires { (length row.old ≡ 4) × ((Whole (meaning model.now) (marks full)) × (node.code < 13)) }
-    ensures { Applies (meaning model.now) (operator node) node.a node.b (marks a) (marks b) (marks row.new) }
+    requires { (length row.old ≡ 4) × ((Whole (M.meaning model.now) (marks full)) × (node.code < 13)) }
+    ensures { Applies (M.meaning model.now) (operator node) node.a node.b (marks a) (marks b) (marks row.new) }
 {
     match node.code {
         0 => row.copy_from_slice(&full),

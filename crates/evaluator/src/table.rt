@@ -49,8 +49,8 @@ fn operand(words: &[u64], i: usize, x: usize) -> [u64; 4]
 
 // Writes the row of each node, in order.
 pub(crate) fn fill<M: Model>(model: &M, nodes: &[Node], words: &mut [u64])
-    requires { Ready Label-as-Label.count nodes.now (length words.old) }
-    ensures { Filled (meaning model.now) nodes.now (length nodes.now) words.old words.new }
+    requires { Ready M.Label.count nodes.now (length words.old) }
+    ensures { Filled (M.meaning model.now) nodes.now (length nodes.now) words.old words.new }
 {
     let every = full(model.states());
     for i in 0..nodes.len() {

@@ -3,7 +3,7 @@ use Rattle.std.proofs.Common.{◌≡◌, ℕ, ◌+◌, ◌/◌, ◌%◌, ◌^◌
 use Rattle.std.proofs.lemmas.Fmt.{decimal_digit, decimal_step, length-decimal-le}
 use Rattle.std.proofs.lemmas.List.{length-append}
 use Rattle.kripke.specs.declared.node.Node.{Node}
-use Rattle.report.specs.Text.{field, node_line, node_lines}
+use Rattle.report.specs.Text.{field, node_line}
 
 pub one_long : (n : ℕ) → n < 10 → length (decimal n) ≡ 1
 one_long n h = ap (λ z. length z) (decimal_digit n h)

@@ -1,13 +1,12 @@
 use Rattle.std.proofs.Common.{ℕ, List, sym, subst}
 use Rattle.kripke.specs.Ctl.{truth}
-use Rattle.kripke.specs.Structure.{Kripke}
 use Rattle.evaluator.specs.Rows.{Tells}
 use Rattle.evaluator.specs.Marks.{marks}
 use Rattle.evaluator.proofs.Meanings.{by_code, is_true, is_question, is-not, is_and, is_or, is_ex, is_ax, is-ef, is-af, is_eg, is_ag, is_eu, is_au}
 use Rattle.evaluator.proofs.operators.apply.Goals as goal
 
 pub returns-in-0 : goal.returns-in-0
-returns-in-0 g c = by_code _ _ 0 _ _ _ _ _ c.in-0.is (λ fs m. subst (λ (r : List ℕ). Tells (g.M.Model.meaning c.args.model.now) truth (marks r)) (sym c.copy-from-slice.ensures.after) (is_true _ _ (g.met.M.Model.lawful c.args.model.now) (marks c.args.full) c.requires.1.0))
+returns-in-0 g c = by_code _ _ 0 _ _ _ _ _ c.in-0.is (λ fs m. subst (λ (r : List ℕ). Tells (g.M.Model.meaning c.args.model.now) truth (marks r)) (sym c.copy_from_slice.ensures.after) (is_true _ _ (g.met.M.Model.lawful c.args.model.now) (marks c.args.full) c.requires.1.0))
 
 pub returns-in-1 : goal.returns-in-1
 returns-in-1 g c = by_code _ _ 1 _ _ _ _ _ c.in-1.is (λ fs m. is_question _ _ (g.met.M.Model.lawful c.args.model.now) _ _ c.ask.ensures)

@@ -1,4 +1,4 @@
-use Rattle.std.proofs.Common.{ℕ, ◌<◌, List, length, sym, refl, arith}
+use Rattle.std.proofs.Common.{ℕ, ◌<◌, List, length, refl, arith}
 use Rattle.kripke.specs.Structure.{Kripke, successors, or_first}
 use Rattle.evaluator.specs.Marks.{marks}
 use Rattle.evaluator.proofs.Members.{member_at, stepped, stopped, ended}

@@ -1,5 +1,5 @@
 -- The successors that are left give the answer.
-use Rattle.std.proofs.Common.{◌≡◌, length, drop}
+use Rattle.std.proofs.Common.{◌≡◌, drop}
 use Rattle.kripke.specs.Structure.{successors}
 use Rattle.evaluator.specs.Marks.{marks, steps}
 use Rattle.evaluator.proofs.operators.onward.Given as goal

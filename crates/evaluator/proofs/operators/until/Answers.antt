@@ -22,5 +22,5 @@ pub returns : goal.returns
 returns g c =
     let k : Kripke = g.M.Model.meaning c.args.model.now in
     let law = g.met.M.Model.lawful c.args.model.now in
-    subst (λ (r : List ℕ). Trim k (marks r) → Divides k c.args.each (Until (Marked (marks c.args.f)) (Marked (marks r))) (marks c.sweep.new.row)) c.copy-from-slice.ensures.after
+    subst (λ (r : List ℕ). Trim k (marks r) → Divides k c.args.each (Until (Marked (marks c.args.f)) (Marked (marks r))) (marks c.sweep.new.row)) c.copy_from_slice.ensures.after
     (reaped _ k law _ _ _ _ (grew _ _ _ _ _ _ _ c.loop-f.invariant c.sweep.ensures) (c.sweep.ensures.still c.loop-f-test.false))

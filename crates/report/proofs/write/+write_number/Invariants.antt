@@ -1,4 +1,4 @@
 use Rattle.report.proofs.write.+write_number.Given as goal
 
-abbrev pub decreases-write-number : goal.decreases-write-number
-decreases-write-number l = l.n
+abbrev pub decreases-write_number : goal.decreases-write_number
+decreases-write_number l = l.n

@@ -9,18 +9,18 @@ returns-in-Alike c =
     let e = ap (λ v. length (report_text v)) c.in-Alike.is in
     (omega (arith, n), omega (arith, e, c.digits.ensures.0, length_alike c.in-Alike.rounds))
 
-pub returns-else-count-gt-MOST-NODES : goal.returns-else-count-gt-MOST-NODES
-returns-else-count-gt-MOST-NODES c =
+pub returns-else-count-gt-MOST_NODES : goal.returns-else-count-gt-MOST_NODES
+returns-else-count-gt-MOST_NODES c =
     let ns = c.in-Different.nodes.now in
     let n = ap node_count c.in-Different.is in
     let e = ap (λ v. length (report_text v)) c.in-Different.is in (
-      omega (arith, n, c.if-count-gt-MOST-NODES.false),
+      omega (arith, n, c.if-count-gt-MOST_NODES.false),
       omega (
         arith,
         e,
         c.digits-in-Different.ensures.0,
         c.digits-in-Different-2.ensures.0,
-        c.lines-length.ensures.0,
+        c.lines_length.ensures.0,
         length_different c.in-Different.rounds (length ns) (node_lines 0 ns),
       ),
     )

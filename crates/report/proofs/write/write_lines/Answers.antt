@@ -1,14 +1,13 @@
 use Rattle.std.proofs.Common.{suc, ◌+◌, ◌≤◌, length, get_or, take, drop, sym, ap}
 use mathlib.Core.Path.{subst⁻¹}
 use Rattle.std.proofs.lemmas.List.{take_all}
-use Rattle.kripke.specs.Nodes.{blank}
 use Rattle.report.specs.Text.{node_lines, node_line}
 use Rattle.report.proofs.Putting.{then, first_fits, rest_fits, puts_same}
 use Rattle.report.proofs.Lines.{lines_more, lines_split}
 use Rattle.report.proofs.write.write_lines.Goals as goal
 
-pub write-line-at-requires : goal.write-line-at-requires
-write-line-at-requires c =
+pub write_line-at-requires : goal.write_line-at-requires
+write_line-at-requires c =
     let ns = c.args.nodes.now in
     let i = c.loop-i.i in
     first_fits _ (node_line i (get_or ns i _)) (node_lines (suc i) (drop (i + 1) ns))
@@ -17,7 +16,7 @@ write-line-at-requires c =
     c.loop-i.invariant)
 
 pub loop-i-preserved : goal.loop-i-preserved
-loop-i-preserved c = puts_same (sym (lines_more c.args.nodes.now c.loop-i.i _ c.loop-i-test.true)) (then _ _ _ c.loop-i.invariant c.write-line-at.ensures)
+loop-i-preserved c = puts_same (sym (lines_more c.args.nodes.now c.loop-i.i _ c.loop-i-test.true)) (then _ _ _ c.loop-i.invariant c.write_line-at.ensures)
 
 pub returns : goal.returns
 returns c = puts_same (ap (node_lines 0) (take_all c.loop-i.i c.args.nodes.now c.loop-i-test.false)) c.loop-i.invariant
