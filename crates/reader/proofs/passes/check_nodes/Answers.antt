@@ -16,7 +16,7 @@ returns-in-err-count c =
 
 pub returns-then-count-room : goal.returns-then-count-room
 returns-then-count-room c =
-    let w = c.in-ok-count.ensures in
+    let w = c.in_ok-count.ensures in
     let r = c.refusal.ensures in
     refuses c.args.text.now c.args.questions c.args.room c.refusal.result
     (many_told c.args.text.now c.args.questions c.args.room c.requires w.formula w.sentence w.within c.refusal.result

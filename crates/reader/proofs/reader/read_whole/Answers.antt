@@ -20,7 +20,7 @@ returns-in-err--own c =
 
 pub returns-in-End : goal.returns-in-End
 returns-in-End c =
-    let z = c.in-ok--own.ensures.owes 1 refl in
+    let z = c.in_ok-_own.ensures.owes 1 refl in
     let n = c.token-token.ensures.next in
     record {
       formula = z.value;

@@ -45,11 +45,11 @@ returns-in-Truth t c =
     let long = ap (λ x. length x.now) p.text in
     record {
       grown = record {
-        standing = record { within = omega (arith, st.within, p.at); short = omega (arith, st.short); few = omega (arith, p.at, p.used, c.in-ok-head.ensures.onward.0) };
-        few = omega (arith, p.at, p.used, c.in-ok-head.ensures.onward.0);
+        standing = record { within = omega (arith, st.within, p.at); short = omega (arith, st.short); few = omega (arith, p.at, p.used, c.in_ok-head.ensures.onward.0) };
+        few = omega (arith, p.at, p.used, c.in_ok-head.ensures.onward.0);
       };
       owes = λ l e. taken q l s0 s1 _ truth _ _
-          (truth_taken q l s0 s1 (subst (λ (h : Head). Begun q l s0 h s1) c.in-Truth.is (c.in-ok-head.ensures.begins l e)))
+          (truth_taken q l s0 s1 (subst (λ (h : Head). Begun q l s0 h s1) c.in-Truth.is (c.in_ok-head.ensures.begins l e)))
           (same_view c.head.new.self c.push.new.self p.text p.at)
           (leaf_laid c.args.self.now.used c.args.places.now truth (node 0 0 0) _ _ _ refl (p.own_val ∙ u) (omega (arith, p.used)) (p.written ∙ ap (λ (k : ℕ). set c.args.places.now k (node 0 0 0)) u));
     }
@@ -65,11 +65,11 @@ returns-in-Question t c =
     let long = ap (λ x. length x.now) p.text in
     record {
       grown = record {
-        standing = record { within = omega (arith, st.within, p.at); short = omega (arith, st.short); few = omega (arith, p.at, p.used, c.in-ok-head.ensures.onward.0) };
-        few = omega (arith, p.at, p.used, c.in-ok-head.ensures.onward.0);
+        standing = record { within = omega (arith, st.within, p.at); short = omega (arith, st.short); few = omega (arith, p.at, p.used, c.in_ok-head.ensures.onward.0) };
+        few = omega (arith, p.at, p.used, c.in_ok-head.ensures.onward.0);
       };
       owes = λ l e. taken q l s0 s1 _ (question c.in-Question.j) _ _
-          (question_taken q l s0 s1 c.in-Question.j (subst (λ (h : Head). Begun q l s0 h s1) c.in-Question.is (c.in-ok-head.ensures.begins l e)))
+          (question_taken q l s0 s1 c.in-Question.j (subst (λ (h : Head). Begun q l s0 h s1) c.in-Question.is (c.in_ok-head.ensures.begins l e)))
           (same_view c.head.new.self c.push-in-Question.new.self p.text p.at)
           (leaf_laid c.args.self.now.used c.args.places.now (question c.in-Question.j) (node 1 c.in-Question.j 0) _ _ _ refl (p.own_val ∙ u) (omega (arith, p.used)) (p.written ∙ ap (λ (k : ℕ). set c.args.places.now k (node 1 c.in-Question.j 0)) u));
     }

@@ -16,7 +16,7 @@ returns-in-default c =
 pub returns-then-not-asked : goal.returns-then-not-asked
 returns-then-not-asked c =
     let z = c.token-token.ensures.next in
-    let forth = head_forth c.token-token.result.0 c.in-Some.head (sym c.head-of.ensures ∙ c.in-Some.is) in
+    let forth = head_forth c.token-token.result.0 c.in-Some.head (sym c.head_of.ensures ∙ c.in-Some.is) in
     let over = c.if-not-asked.ensures in
     record {
       moved = record { standing = c.token-token.ensures.standing; forward = z.forward; used = z.used };
@@ -27,7 +27,7 @@ returns-then-not-asked c =
 pub returns-then-spent : goal.returns-then-spent
 returns-then-spent c =
     let z = c.token-token.ensures.next in
-    let forth = head_forth c.token-token.result.0 c.in-Some.head (sym c.head-of.ensures ∙ c.in-Some.is) in
+    let forth = head_forth c.token-token.result.0 c.in-Some.head (sym c.head_of.ensures ∙ c.in-Some.is) in
     record {
       moved = record { standing = c.token-token.ensures.standing; forward = z.forward; used = z.used };
       onward = tt;

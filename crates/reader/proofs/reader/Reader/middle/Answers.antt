@@ -24,12 +24,12 @@ pub returns-in-Exists : goal.returns-in-Exists
 returns-in-Exists c = record {
   moved = c.expect.ensures.moved;
   owes = λ n. subst (λ (o : Opening). Owes {R = ℕ} (Middle o) (λ m code. code ≡ joined_code o m) n (view c.args.self.now) (view c.expect.new.self) (Ok 11)) (sym (c.in-Until.is ∙ ap Until c.in-Exists.is))
-      (let z = c.in-ok-expect.ensures.owes n in record { value = tt; is = refl; after = z.after; good = z.good });
+      (let z = c.in_ok-expect-in-Until.ensures.owes n in record { value = tt; is = refl; after = z.after; good = z.good });
 }
 
 pub returns-in-Forall : goal.returns-in-Forall
 returns-in-Forall c = record {
   moved = c.expect.ensures.moved;
   owes = λ n. subst (λ (o : Opening). Owes {R = ℕ} (Middle o) (λ m code. code ≡ joined_code o m) n (view c.args.self.now) (view c.expect.new.self) (Ok 12)) (sym (c.in-Until.is ∙ ap Until c.in-Forall.is))
-      (let z = c.in-ok-expect.ensures.owes n in record { value = tt; is = refl; after = z.after; good = z.good });
+      (let z = c.in_ok-expect-in-Until.ensures.owes n in record { value = tt; is = refl; after = z.after; good = z.good });
 }

@@ -24,9 +24,9 @@ returns c =
     let ts : List ℕ = c.trim.new.self.text.now in
     let same = ap (λ x. x.now) c.trim.ensures.text in
     let seen : ahead c.args.self.now.text.now c.args.self.now.at ≡ ahead ts c.args.self.now.at = ap (λ (l : List ℕ). ahead l c.args.self.now.at) (sym same) in
-    let z = stepped ts c.args.self.now.at c.trim.new.self.at c.split-token-token.result.0 c.split-token-token.result.1.now
+    let z = stepped ts c.args.self.now.at c.trim.new.self.at c.split_token-token.result.0 c.split_token-token.result.1.now
     (subst (λ (l : List ℕ). Trimmed l c.args.self.now.at c.trim.new.self.at) (sym same) c.trim.ensures.trimmed)
-    c.split-token-token.ensures.0 c.split-token-token.ensures.1 in
+    c.split_token-token.ensures.0 c.split_token-token.ensures.1 in
     let long : length ts ≡ length c.args.self.now.text.now = ap length same in
     record {
       standing = record { within = z.within; short = omega arith; few = omega (arith, z.forward, c.trim.ensures.used) };
