@@ -1,4 +1,4 @@
-use Rattle.std.proofs.Common.{◌≡◌, ℕ, Result, sym, refl, ◌∙◌, subst, arith}
+use Rattle.std.proofs.Common.{ℕ, Result, sym, refl, ◌∙◌, subst, arith}
 use Rattle.std.proofs.lemmas.Result.{err_from_is_err_and}
 use Rattle.kripke.specs.declared.refusal.Refusal.{Refusal}
 use Rattle.reader.specs.declared.token.Token.TheVariants as token

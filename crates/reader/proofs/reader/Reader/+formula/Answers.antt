@@ -1,4 +1,4 @@
-use Rattle.std.proofs.Common.{ℕ, suc, ◌+◌, ◌-◌, length, set, refl, ap, ◌∙◌, subst, arith}
+use Rattle.std.proofs.Common.{ℕ, suc, ◌+◌, length, set, refl, ap, ◌∙◌, subst, arith}
 use Rattle.kripke.specs.Ctl.{truth, question}
 use Rattle.reader.specs.declared.head.Head.{Head}
 use Rattle.reader.specs.Tokens.{Stream}
