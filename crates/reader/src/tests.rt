@@ -45,16 +45,17 @@ fn outcome(row: Row) -> (u8, usize) {
     }
 }
 
-fn run(rt: &impl Abort, rows: &[Row]) {
+fn run(rt: &impl Abort, what: &str, rows: &[Row]) {
     for (i, row) in rows.iter().enumerate() {
         let (number, place) = outcome(*row);
-        assert!(rt; number == row.number && place == row.place, "{}", i);
+        assert!(rt; number == row.number && place == row.place, "{what} {i}");
     }
 }
 
-fn tokens(rt: &impl Abort) -> Result<(), Fail> {
+fn tokens(rt: &impl Abort) {
     run(
         rt,
+        "tokens",
         &[
             row_of(b"T", 1, 1, 0, 1),
             row_of(b"q05", 32, 9, 10, 2),
@@ -73,12 +74,12 @@ fn tokens(rt: &impl Abort) -> Result<(), Fail> {
             row_of(b"(T&T", 1, 9, 10, 4),
         ],
     );
-    Ok(())
 }
 
-fn limits(rt: &impl Abort) -> Result<(), Fail> {
+fn limits(rt: &impl Abort) {
     run(
         rt,
+        "limits",
         &[
             row_of(b"T", 0, 9, 9, 0),
             row_of(b"T", 33, 9, 9, 0),
@@ -129,7 +130,6 @@ fn limits(rt: &impl Abort) -> Result<(), Fail> {
             ),
         ],
     );
-    Ok(())
 }
 
 // The text of `length` bytes at the front, f, becomes (f&f).
@@ -168,7 +168,7 @@ fn with_first(text: [u8; 4096], a: u8, b: u8) -> [u8; 4096] {
     other
 }
 
-fn long_texts(rt: &impl Abort) -> Result<(), Fail> {
+fn long_texts(rt: &impl Abort) {
     let mut long = [b' '; 4097];
     long[0] = b'T';
     let more = tree();
@@ -176,6 +176,7 @@ fn long_texts(rt: &impl Abort) -> Result<(), Fail> {
     let over = with_first(more, b'!', b'T');
     run(
         rt,
+        "long texts",
         &[
             row_of(&long[0..4096], 1, 1, 0, 1),
             row_of(&long[0..4097], 1, 1, 9, 0),
@@ -186,7 +187,6 @@ fn long_texts(rt: &impl Abort) -> Result<(), Fail> {
             row_of(&fitting[0..4093], 1, 2044, 13, 2045),
         ],
     );
-    Ok(())
 }
 
 fn nodes(rt: &impl Abort) -> Result<(), Fail> {
@@ -196,7 +196,10 @@ fn nodes(rt: &impl Abort) -> Result<(), Fail> {
         a: 9,
         b: 9,
     };
-    assert!(rt; read_formula(b"AG (q0|EF q2)", 3, &mut places)? == 5);
+    assert!(rt;
+        read_formula(b"AG (q0|EF q2)", 3, &mut places)? == 5,
+        "nodes"
+    );
     let wanted = [
         (1, 0, 0),
         (1, 2, 0),
@@ -209,8 +212,7 @@ fn nodes(rt: &impl Abort) -> Result<(), Fail> {
         let (code, a, b) = wanted[i];
         assert!(rt;
             places[i].code == code && places[i].a == a && places[i].b == b,
-            "{}",
-            i
+            "nodes {i}"
         );
     }
     Ok(())
@@ -218,8 +220,8 @@ fn nodes(rt: &impl Abort) -> Result<(), Fail> {
 
 #[test]
 fn texts(rt: HostRuntime) -> Result<(), Fail> {
-    tokens(&rt).note("tokens")?;
-    limits(&rt).note("limits")?;
-    long_texts(&rt).note("long texts")?;
-    nodes(&rt).note("nodes")
+    tokens(&rt);
+    limits(&rt);
+    long_texts(&rt);
+    nodes(&rt)
 }

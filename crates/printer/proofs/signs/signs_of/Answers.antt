@@ -33,5 +33,5 @@ returns-in-10 c = at_code 10 c.args.code _ (omega arith) (record { operator = un
 pub returns-in-11 : goal.returns-in-11
 returns-in-11 c = at_code 11 c.args.code _ (omega arith) two_eu
 
-pub returns-in-default : goal.returns-in-default
-returns-in-default c = at_code 12 c.args.code _ (omega arith) two_au
+pub returns-in_default : goal.returns-in_default
+returns-in_default c = at_code 12 c.args.code _ (omega arith) two_au

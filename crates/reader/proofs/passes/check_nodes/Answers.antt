@@ -7,16 +7,16 @@ use Rattle.reader.proofs.Verdicts.{told}
 use Rattle.reader.proofs.Judgements.{many_told, refuses}
 use Rattle.reader.proofs.passes.check_nodes.Goals as goal
 
-pub returns-in-err-count : goal.returns-in-err-count
-returns-in-err-count c =
-    let p = err_from_is_err_and c.from-residual.result c.from-residual.ensures.1 in
+pub returns-in_err-count : goal.returns-in_err-count
+returns-in_err-count c =
+    let p = err_from_is_err_and c.from_residual.result c.from_residual.ensures.1 in
     subst (λ (r : Result (Unit {0}) Refusal). MatchResult r (λ _. (f : Formula) × Readable c.args.text.now c.args.questions c.args.room f) (λ e. Refuses c.args.text.now c.args.questions c.args.room e)) (sym p.1)
     (subst (Refuses c.args.text.now c.args.questions c.args.room) (sym p.2)
-    (refuses c.args.text.now c.args.questions c.args.room _ (told c.args.text.now c.args.questions c.args.room c.requires _ c.in-err-count.ensures)))
+    (refuses c.args.text.now c.args.questions c.args.room _ (told c.args.text.now c.args.questions c.args.room c.requires _ c.in_err-count.ensures)))
 
 pub returns-then-count-room : goal.returns-then-count-room
 returns-then-count-room c =
-    let w = c.in-ok-count.ensures in
+    let w = c.in_ok-count.ensures in
     let r = c.refusal.ensures in
     refuses c.args.text.now c.args.questions c.args.room c.refusal.result
     (many_told c.args.text.now c.args.questions c.args.room c.requires w.formula w.sentence w.within c.refusal.result

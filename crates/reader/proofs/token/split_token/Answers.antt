@@ -13,11 +13,11 @@ returns-in-None c =
     let first : get_or c.args.text.now 0 0 ≡ 113 = search rules in
     stray_split c.args.text.now (omega (arith, ltb-false, leb-true, ltb-true, leb-false)) first c.in-None.ensures
 
-pub returns-in-Some-split-operator : goal.returns-in-Some-split-operator
-returns-in-Some-split-operator c =
-    operator_split_lem c.args.text.now c.in-Some-split-operator.operator c.in-Some-split-operator.rest.now (omega (arith, ltb-false, leb-true, ltb-true, leb-false)) (λ e. omega arith)
-    c.in-Some-split-operator.ensures
+pub returns-in-Some-split_operator : goal.returns-in-Some-split_operator
+returns-in-Some-split_operator c =
+    operator_split_lem c.args.text.now c.in-Some-split_operator.operator c.in-Some-split_operator.rest.now (omega (arith, ltb-false, leb-true, ltb-true, leb-false)) (λ e. omega arith)
+    c.in-Some-split_operator.ensures
 
-pub returns-in-None-split-operator : goal.returns-in-None-split-operator
-returns-in-None-split-operator c =
-    sign_split c.args.text.now c.byte-token.result (omega (arith, ltb-false, leb-true, ltb-true, leb-false)) (λ e. omega arith) c.in-None-split-operator.ensures c.byte-token.ensures
+pub returns-in-None-split_operator : goal.returns-in-None-split_operator
+returns-in-None-split_operator c =
+    sign_split c.args.text.now c.byte_token.result (omega (arith, ltb-false, leb-true, ltb-true, leb-false)) (λ e. omega arith) c.in-None-split_operator.ensures c.byte_token.ensures

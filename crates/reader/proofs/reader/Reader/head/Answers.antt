@@ -4,19 +4,19 @@ use Rattle.reader.specs.Reading.{view}
 use Rattle.reader.proofs.Steps.{tells, head_forth, not_begun, unasked_begun, deep_begun}
 use Rattle.reader.proofs.reader.Reader.head.Goals as goal
 
-pub returns-in-default : goal.returns-in-default
-returns-in-default c =
+pub returns-in_default : goal.returns-in_default
+returns-in_default c =
     let z = c.token-token.ensures.next in
     record {
       moved = record { standing = c.token-token.ensures.standing; forward = z.forward; used = z.used };
       onward = tt;
-      begins = λ l e. not_begun c.args.questions l (view c.args.self.now) _ (ap head_of z.is ∙ sym c.head-of.ensures ∙ c.in-default.is) (tells _ _ _ _ _ z.here c.refusal.ensures);
+      begins = λ l e. not_begun c.args.questions l (view c.args.self.now) _ (ap head_of z.is ∙ sym c.head_of.ensures ∙ c.in_default.is) (tells _ _ _ _ _ z.here c.refusal.ensures);
     }
 
 pub returns-then-not-asked : goal.returns-then-not-asked
 returns-then-not-asked c =
     let z = c.token-token.ensures.next in
-    let forth = head_forth c.token-token.result.0 c.in-Some.head (sym c.head-of.ensures ∙ c.in-Some.is) in
+    let forth = head_forth c.token-token.result.0 c.in-Some.head (sym c.head_of.ensures ∙ c.in-Some.is) in
     let over = c.if-not-asked.ensures in
     record {
       moved = record { standing = c.token-token.ensures.standing; forward = z.forward; used = z.used };
@@ -27,7 +27,7 @@ returns-then-not-asked c =
 pub returns-then-spent : goal.returns-then-spent
 returns-then-spent c =
     let z = c.token-token.ensures.next in
-    let forth = head_forth c.token-token.result.0 c.in-Some.head (sym c.head-of.ensures ∙ c.in-Some.is) in
+    let forth = head_forth c.token-token.result.0 c.in-Some.head (sym c.head_of.ensures ∙ c.in-Some.is) in
     record {
       moved = record { standing = c.token-token.ensures.standing; forward = z.forward; used = z.used };
       onward = tt;

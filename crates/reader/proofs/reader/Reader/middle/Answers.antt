@@ -13,23 +13,23 @@ returns-in-Pair c = record {
       (c.link.ensures.owes n);
 }
 
-pub returns-in-err-expect : goal.returns-in-err-expect
-returns-in-err-expect c = record {
+pub returns-in_err-expect-in-Until : goal.returns-in_err-expect-in-Until
+returns-in_err-expect-in-Until c = record {
   moved = c.expect.ensures.moved;
-  owes = λ n. subst (λ (o : Opening). Owes {R = ℕ} (Middle o) (λ m code. code ≡ joined_code o m) n (view c.args.self.now) (view c.expect.new.self) c.from-residual.result) (sym c.in-Until.is)
-      (broke (Middle (Until c.in-Until.quantifier)) _ n _ _ _ _ c.from-residual.ensures.1 (c.in-err-expect.ensures.owes n));
+  owes = λ n. subst (λ (o : Opening). Owes {R = ℕ} (Middle o) (λ m code. code ≡ joined_code o m) n (view c.args.self.now) (view c.expect.new.self) c.from_residual.result) (sym c.in-Until.is)
+      (broke (Middle (Until c.in-Until.quantifier)) _ n _ _ _ _ c.from_residual.ensures.1 (c.in_err-expect-in-Until.ensures.owes n));
 }
 
 pub returns-in-Exists : goal.returns-in-Exists
 returns-in-Exists c = record {
   moved = c.expect.ensures.moved;
   owes = λ n. subst (λ (o : Opening). Owes {R = ℕ} (Middle o) (λ m code. code ≡ joined_code o m) n (view c.args.self.now) (view c.expect.new.self) (Ok 11)) (sym (c.in-Until.is ∙ ap Until c.in-Exists.is))
-      (let z = c.in-ok-expect.ensures.owes n in record { value = tt; is = refl; after = z.after; good = z.good });
+      (let z = c.in_ok-expect-in-Until.ensures.owes n in record { value = tt; is = refl; after = z.after; good = z.good });
 }
 
 pub returns-in-Forall : goal.returns-in-Forall
 returns-in-Forall c = record {
   moved = c.expect.ensures.moved;
   owes = λ n. subst (λ (o : Opening). Owes {R = ℕ} (Middle o) (λ m code. code ≡ joined_code o m) n (view c.args.self.now) (view c.expect.new.self) (Ok 12)) (sym (c.in-Until.is ∙ ap Until c.in-Forall.is))
-      (let z = c.in-ok-expect.ensures.owes n in record { value = tt; is = refl; after = z.after; good = z.good });
+      (let z = c.in_ok-expect-in-Until.ensures.owes n in record { value = tt; is = refl; after = z.after; good = z.good });
 }

@@ -4,29 +4,29 @@ use Rattle.reader.specs.Reading.{ahead, Trimmed}
 use Rattle.reader.proofs.Ahead.{left_fits, stepped, here_over, cut_over}
 use Rattle.reader.proofs.reader.Reader.token.Goals as goal
 
-pub overflow-sub-self : goal.overflow-sub-self
-overflow-sub-self c =
+pub overflow_sub-self : goal.overflow_sub-self
+overflow_sub-self c =
     let same = ap (λ x. length x.now) c.trim.ensures.text in
-    omega (arith, left_fits c.trim.new.self.text.now c.split-token-token.result.1.now c.trim.new.self.at _ (omega (arith, c.trim.ensures.trimmed.within)) c.split-token-token.ensures.1)
+    omega (arith, left_fits c.trim.new.self.text.now c.split_token-token.result.1.now c.trim.new.self.at _ (omega (arith, c.trim.ensures.trimmed.within)) c.split_token-token.ensures.1)
 
-pub slice-bounds-result-count : goal.slice-bounds-result-count
-slice-bounds-result-count c =
+pub slice_bounds-result-count : goal.slice_bounds-result-count
+slice_bounds-result-count c =
     let same = ap (λ x. length x.now) c.trim.ensures.text in
-    omega (arith, left_fits c.trim.new.self.text.now c.split-token-token.result.1.now c.trim.new.self.at _ (omega (arith, c.trim.ensures.trimmed.within)) c.split-token-token.ensures.1)
+    omega (arith, left_fits c.trim.new.self.text.now c.split_token-token.result.1.now c.trim.new.self.at _ (omega (arith, c.trim.ensures.trimmed.within)) c.split_token-token.ensures.1)
 
-pub slice-bounds-result-start : goal.slice-bounds-result-start
-slice-bounds-result-start c =
+pub slice_bounds-result-start : goal.slice_bounds-result-start
+slice_bounds-result-start c =
     let same = ap (λ x. length x.now) c.trim.ensures.text in
-    omega (arith, left_fits c.trim.new.self.text.now c.split-token-token.result.1.now c.trim.new.self.at _ (omega (arith, c.trim.ensures.trimmed.within)) c.split-token-token.ensures.1)
+    omega (arith, left_fits c.trim.new.self.text.now c.split_token-token.result.1.now c.trim.new.self.at _ (omega (arith, c.trim.ensures.trimmed.within)) c.split_token-token.ensures.1)
 
 pub returns : goal.returns
 returns c =
     let ts : List ℕ = c.trim.new.self.text.now in
     let same = ap (λ x. x.now) c.trim.ensures.text in
     let seen : ahead c.args.self.now.text.now c.args.self.now.at ≡ ahead ts c.args.self.now.at = ap (λ (l : List ℕ). ahead l c.args.self.now.at) (sym same) in
-    let z = stepped ts c.args.self.now.at c.trim.new.self.at c.split-token-token.result.0 c.split-token-token.result.1.now
+    let z = stepped ts c.args.self.now.at c.trim.new.self.at c.split_token-token.result.0 c.split_token-token.result.1.now
     (subst (λ (l : List ℕ). Trimmed l c.args.self.now.at c.trim.new.self.at) (sym same) c.trim.ensures.trimmed)
-    c.split-token-token.ensures.0 c.split-token-token.ensures.1 in
+    c.split_token-token.ensures.0 c.split_token-token.ensures.1 in
     let long : length ts ≡ length c.args.self.now.text.now = ap length same in
     record {
       standing = record { within = z.within; short = omega arith; few = omega (arith, z.forward, c.trim.ensures.used) };
