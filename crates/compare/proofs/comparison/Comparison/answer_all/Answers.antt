@@ -20,8 +20,8 @@ loop-request-preserved c =
       search rules,
       same_trans s t _ inv.2 c.answer-answer.ensures.same,
       run_step (first s) (second s) (questions s) (rounds s) c.args.requests.now i _ _ c.answer-answer.result (rounds t) _ l inv.3
-          (law_from s t _ _ _ inv.2 c.answer-answer.ensures.law) c.push-reserved.ensures.items,
-      kept_more s t _ _ _ c.answer-answer.result inv.4 c.answer-answer.ensures.kept c.push-reserved.ensures.items,
+          (law_from s t _ _ _ inv.2 c.answer-answer.ensures.law) c.push_reserved.ensures.items,
+      kept_more s t _ _ _ c.answer-answer.result inv.4 c.answer-answer.ensures.kept c.push_reserved.ensures.items,
     )
 
 pub returns : goal.returns
