@@ -1,4 +1,4 @@
-use Rattle.std.proofs.Common.{◌≡◌, ℕ, ◌+◌, not, eqb, length, get_or, vec_items, sym, ap, ◌∙◌, arith}
+use Rattle.std.proofs.Common.{◌≡◌, ℕ, ◌+◌, not, eqb, length, vec_items, ap, ◌∙◌, arith}
 use Rattle.refine.proofs.Rowed.{row_size}
 use Rattle.refine.specs.Steps.{class_of}
 use Rattle.compare.proofs.Levels.{level_is}

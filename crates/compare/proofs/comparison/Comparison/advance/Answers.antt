@@ -1,6 +1,5 @@
-use Rattle.std.proofs.Common.{◌≡◌, ℕ, suc, ◌<◌, ◌≤◌, Bool, true, false, sym, refl, ap, ◌∙◌, subst, inl, inr, arith}
+use Rattle.std.proofs.Common.{◌≡◌, ℕ, suc, false, sym, ap, ◌∙◌, subst}
 use Rattle.std.proofs.lemmas.Bool.{or_parts}
-use Rattle.kripke.specs.Structure.{Kripke}
 use Rattle.kripke.specs.Classes.{Classes}
 use Rattle.refine.specs.declared.pair.Pair.{Pair}
 use Rattle.refine.specs.declared.refinement.Refinement.{Refinement}

@@ -1,4 +1,4 @@
-use Rattle.std.proofs.Common.{◌≡◌, ℕ, suc, List, sym, refl, ap, ◌∙◌, subst}
+use Rattle.std.proofs.Common.{ℕ, List, sym, refl, ap, ◌∙◌, subst}
 use Rattle.kripke.specs.declared.node.Node.{Node}
 use Rattle.compare.specs.Answers.{Separating}
 use Rattle.compare.specs.Calls.{first, second, questions, rounds}

@@ -1,5 +1,4 @@
-use Rattle.std.proofs.Common.{◌≡◌, T, sym, ◌∙◌, subst}
-use Rattle.std.proofs.lemmas.Bool.{not-true, not-false}
+use Rattle.std.proofs.Common.{T, sym, ◌∙◌, subst}
 use Rattle.kripke.specs.Refusals.{First}
 use Rattle.kripke.specs.declared.refusal.Refusal.{Refusal}
 use Rattle.kripke.specs.declared.refusal.Layer.TheVariants as layer
