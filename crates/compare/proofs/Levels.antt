@@ -1,11 +1,11 @@
 -- A refinement's initial states, and the formula that tells them apart.
-use Rattle.std.proofs.Common.{◌≡◌, ℕ, ◌+◌, ◌-◌, ◌*◌, ◌<◌, ◌≤◌, Bool, true, false, not, ◌&&◌, ◌||◌, T, eqb, ltb, leb, ◌↔◌, List, [], length, get_or, vec_items, sym, refl, ap, ◌∙◌, subst, arith}
-use Rattle.std.proofs.lemmas.Bool.{eq-eqb, eqb-true, eqb-false, ne_eqb, lt-ltb, le-leb}
+use Rattle.std.proofs.Common.{◌≡◌, ℕ, ◌+◌, ◌*◌, ◌<◌, ◌≤◌, Bool, true, false, not, ◌||◌, T, eqb, List, [], length, get_or, vec_items, sym, refl, ap, ◌∙◌, subst, arith}
+use Rattle.std.proofs.lemmas.Bool.{eq-eqb, eqb-false, ne_eqb, lt-ltb, le-leb}
 use Rattle.kripke.specs.Structure.{Kripke, Lawful, size}
 use Rattle.kripke.specs.Ctl.{Formula, nesting}
-use Rattle.kripke.specs.Nodes.{formula, root}
+use Rattle.kripke.specs.Nodes.{root}
 use Rattle.kripke.specs.Rounds.{total}
-use Rattle.kripke.specs.Tests.{same, together}
+use Rattle.kripke.specs.Tests.{together}
 use Rattle.kripke.specs.Union.{both}
 use Rattle.kripke.specs.declared.node.Node.{Node}
 use Rattle.kripke.proofs.Reflect.{beq-T, same-T, together-T}

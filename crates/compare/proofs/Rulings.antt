@@ -1,22 +1,19 @@
 -- The closing rule as a test, and what follows from it for the calls.
-use Rattle.std.proofs.Common.{◌≡◌, ℕ, zero, suc, ◌+◌, ◌*◌, ◌<◌, ◌≤◌, Bool, true, false, cond, not, ◌&&◌, ◌||◌, T, ◌⊎◌, ◌↔◌, sym, refl, ap, ◌∙◌, subst, inl, inr, ⊎_elim, arith}
+use Rattle.std.proofs.Common.{◌≡◌, ℕ, zero, suc, ◌+◌, ◌*◌, ◌<◌, ◌≤◌, Bool, true, false, cond, not, ◌||◌, T, sym, refl, ap, ◌∙◌, subst, inl, inr, arith}
 use native.Mathlib.Decide.{ℕ_discrete}
-use Rattle.kripke.specs.Structure.{Kripke, Lawful, size}
-use Rattle.kripke.specs.Rounds.{Same, Settled, Apart, total, ClosedDifferent, ClosedAlike, ClosedAfter, FirstClosed}
+use Rattle.kripke.specs.Structure.{Kripke, Lawful}
+use Rattle.kripke.specs.Rounds.{Same, Apart, total, ClosedDifferent, ClosedAlike, ClosedAfter, FirstClosed}
 use Rattle.kripke.specs.Refusals.{Before, Clean, First}
 use Rattle.kripke.specs.declared.refusal.Cause.{Cause}
 use Rattle.kripke.specs.declared.refusal.Cause.TheVariants.{ClosedComparison, StateNumber, OpenComparison, NotDifferent, FewPlaces}
 use Rattle.kripke.specs.declared.refusal.Layer.TheVariants as layer
-use Rattle.kripke.specs.declared.refusal.Refusal.{Refusal}
 use Rattle.kripke.proofs.Reflect.{same-T, settled-T, or_T}
 use Rattle.kripke.proofs.Closing.{still_open, alike_agree, different_separated}
 use Rattle.refine.specs.Stages.{rested}
-use Rattle.refine.proofs.Somes.{T-yes}
 use Rattle.compare.specs.Closing.{level, closed}
 use Rattle.compare.specs.Breaches as breach
 use Rattle.compare.specs.Breaches.{RoundBreach, ClassBreach, VerdictBreach, FormulaBreach, beyond, unclosed, no_difference, few}
 use Rattle.compare.specs.Answers.{Decides}
-use Rattle.compare.specs.declared.verdict.Verdict.{Verdict}
 use Rattle.compare.specs.declared.verdict.Outcome.{Outcome}
 use Rattle.compare.specs.declared.verdict.Outcome.TheVariants.{Alike, Different}
 

@@ -1,14 +1,14 @@
 -- The kept table of a comparison that is closed as different.
-use Rattle.std.proofs.Common.{◌≡◌, ℕ, suc, ◌+◌, ◌-◌, ◌*◌, ◌<◌, ◌≤◌, Bool, true, false, not, ◌&&◌, ◌||◌, T, ltb, leb, ◌↔◌, List, [], ◌∷◌, length, get_or, sym, refl, ap, ◌∙◌, subst, inl, inr, arith}
+use Rattle.std.proofs.Common.{◌≡◌, ℕ, ◌+◌, ◌-◌, ◌<◌, ◌≤◌, false, not, ◌&&◌, ◌||◌, T, ltb, leb, ◌↔◌, length, get_or, sym, subst, inl, inr, arith}
 use Rattle.std.proofs.lemmas.Bool.{leb-true, ltb-true}
-use Rattle.kripke.specs.Structure.{Kripke, Member, size}
+use Rattle.kripke.specs.Structure.{Member, size}
 use Rattle.kripke.specs.Ctl.{Formula, Holds, NextOnly, nesting}
 use Rattle.kripke.specs.Nodes.{blank, root}
 use Rattle.kripke.specs.Rounds.{Separates, total}
 use Rattle.kripke.specs.Union.{both}
 use Rattle.kripke.specs.declared.node.Node.{Node}
 use Rattle.kripke.proofs.Closing.{different_separated}
-use Rattle.kripke.proofs.Numbers.{first_of, second_of, first_to, second-to}
+use Rattle.kripke.proofs.Numbers.{first_of, second-to}
 use Rattle.kripke.proofs.Unions.{both-size, both-holds, both-closed}
 use Rattle.refine.specs.Tests.{test}
 use Rattle.refine.proofs.Orders.{Shape, always, asks, denies, joins, steps, shape, well_formed, next_only, and_T}

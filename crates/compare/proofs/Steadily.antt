@@ -1,15 +1,14 @@
 -- A comparison that is closed stays as it is, so that its formula is always the same.
-use Rattle.std.proofs.Common.{◌≡◌, ℕ, ◌⊎◌, List, [], ◌∷◌, ◌++◌, sym, refl, ap, ◌∙◌, subst, inl, inr, ⊎_elim}
+use Rattle.std.proofs.Common.{◌≡◌, ℕ, ◌⊎◌, List, [], ◌∷◌, ◌++◌, sym, refl, ◌∙◌, subst, inl, inr, ⊎_elim}
 use Rattle.std.proofs.ByRecursion.{All-push}
 use Rattle.std.specs.List.{AllByRecursion as All}
-use Rattle.kripke.specs.Structure.{Kripke}
 use Rattle.kripke.specs.Refusals.{Clean}
-use Rattle.kripke.specs.Rounds.{ClosedAfter, ClosedDifferent}
+use Rattle.kripke.specs.Rounds.{ClosedAfter}
 use Rattle.kripke.specs.declared.node.Node.{Node}
 use Rattle.kripke.specs.declared.refusal.Cause.TheVariants.{ClosedComparison, NotDifferent}
 use Rattle.compare.specs.Breaches.{RoundBreach, FormulaBreach, closed, no_difference}
 use Rattle.compare.specs.Calls.{first, second, rounds, table}
-use Rattle.compare.specs.Law.{Tells, Steady, Kept}
+use Rattle.compare.specs.Law.{Tells, Kept}
 use Rattle.compare.specs.declared.comparison.Comparison.{Comparison}
 use Rattle.compare.specs.declared.requests.Answer.{Answer}
 

@@ -1,5 +1,5 @@
 -- What the answers of a comparison of a and b after k rounds say.
-use Rattle.std.specs.Prelude.{◌≡◌, ℕ, suc, ◌+◌, ◌-◌, ◌*◌, ◌<◌, ◌≤◌, ◌↔◌, List, [], ◌∷◌, length, slice_index_or}
+use Rattle.std.specs.Prelude.{◌≡◌, ℕ, ◌+◌, ◌-◌, ◌*◌, ◌<◌, ◌≤◌, ◌↔◌, List, [], ◌∷◌, length, slice_index_or}
 use Rattle.kripke.specs.Structure.{Kripke, Member}
 use Rattle.kripke.specs.Ctl.{Formula, Holds, NextOnly, nesting}
 use Rattle.kripke.specs.Nodes.{WellFormed, blank, root}

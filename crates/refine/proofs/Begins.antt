@@ -1,17 +1,17 @@
 -- One class of all states, and its split by the questions.
-use Rattle.std.proofs.Common.{◌≡◌, ℕ, zero, suc, ◌+◌, ◌*◌, ◌<◌, ◌≤◌, Bool, true, false, T, eqb, ◌↔◌, List, [], ◌∷◌, ◌++◌, length, get_or, replicate, vec_items, sym, refl, ap, ◌∙◌, subst, arith}
+use Rattle.std.proofs.Common.{◌≡◌, ℕ, zero, suc, ◌+◌, ◌<◌, ◌≤◌, Bool, true, false, eqb, List, [], ◌∷◌, ◌++◌, length, get_or, replicate, sym, refl, ap, ◌∙◌, subst, arith}
 use native.Mathlib.Decide.{ℕ_discrete}
 use Rattle.std.proofs.lemmas.Bool.{eq-eqb, ne_eqb}
 use Rattle.kripke.specs.Structure.{Kripke, answer}
 use Rattle.kripke.specs.Ctl.{Formula, truth, nesting}
 use Rattle.kripke.specs.Nodes.{formula, blank}
-use Rattle.kripke.specs.Classes.{Alike, Low, Led}
+use Rattle.kripke.specs.Classes.{Low, Led}
 use Rattle.kripke.specs.declared.node.Node.{Node}
 use Rattle.kripke.proofs.Tables.{formula_new}
 use Rattle.refine.specs.Classes.{Here, leaders, bit, sum}
 use Rattle.refine.specs.Growth.{Orderly, Boolean}
 use Rattle.refine.specs.Tests.{test}
-use Rattle.refine.specs.Steps.{at, Exact, Divided}
+use Rattle.refine.specs.Steps.{at, Divided}
 use Rattle.refine.specs.Rounding.{Asking}
 use Rattle.refine.specs.declared.partition.Partition.{Partition}
 use Rattle.refine.proofs.Orders.{orderly_push}

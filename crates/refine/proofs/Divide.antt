@@ -1,10 +1,9 @@
 -- A whole split: the test is added, the first class parted, and the rest scanned.
-use Rattle.std.proofs.Common.{◌≡◌, ℕ, suc, ◌+◌, ◌<◌, ◌≤◌, Bool, true, false, not, eqb, ◌↔◌, List, length, get_or, vec_items, sym, refl, ap, ◌∙◌, subst, arith}
+use Rattle.std.proofs.Common.{◌≡◌, ℕ, ◌+◌, ◌<◌, ◌≤◌, Bool, not, eqb, List, get_or, vec_items, sym, ap, ◌∙◌, subst, arith}
 use mathlib.Core.Bool.{beq}
 use Rattle.kripke.specs.Ctl.{Formula, nesting}
 use Rattle.kripke.specs.Nodes.{made, formulas, formula}
 use Rattle.kripke.specs.declared.node.Node.{Node}
-use Rattle.kripke.specs.Classes.{Alike}
 use Rattle.refine.specs.Growth.{Boolean, Begun}
 use Rattle.refine.specs.Steps.{at, class_of, class_formula, Exact, Shallow, Stands, Odd, Keeps, Parted, Few, Scanned, Divided}
 use Rattle.refine.specs.declared.partition.Partition.{Partition}

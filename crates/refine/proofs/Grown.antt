@@ -1,11 +1,11 @@
 -- Tables that grow: a test with its negation, and conjunctions.
-use Rattle.std.proofs.Common.{◌≡◌, ℕ, zero, suc, ◌+◌, ◌<◌, ◌≤◌, max, Bool, true, false, ◌&&◌, T, List, [], ◌∷◌, ◌++◌, length, get_or, sym, refl, ap, ◌∙◌, subst, arith}
-use Rattle.std.proofs.lemmas.List.{get_or_default, length_push}
+use Rattle.std.proofs.Common.{◌≡◌, ℕ, suc, ◌<◌, ◌≤◌, ◌&&◌, List, [], ◌∷◌, ◌++◌, length, get_or, sym, refl, ap, ◌∙◌, subst, arith}
+use Rattle.std.proofs.lemmas.List.{length_push}
 use Rattle.kripke.specs.Ctl.{Formula, truth, and, nesting}
 use Rattle.kripke.specs.Nodes.{made, formulas, formula, blank}
 use Rattle.kripke.specs.declared.node.Node.{Node}
 use Rattle.kripke.proofs.Tables.{formula_keeps, formula_new}
-use Rattle.refine.specs.Growth.{next_node, Orderly, Extends, Boolean, Begun, Conjoined}
+use Rattle.refine.specs.Growth.{Extends, Begun, Conjoined}
 use Rattle.refine.proofs.Orders.{T_and, lt_T, node_is, made_at, orderly_push}
 
 pub extends_refl : (ns : List Node) → Extends ns ns

@@ -1,10 +1,10 @@
 -- Next-only nodes: what the test says of a node, the order of a table of such nodes, and their formulas.
-use Rattle.std.proofs.Common.{◌≡◌, ℕ, zero, suc, ◌<◌, ◌≤◌, Bool, true, false, cond, ◌&&◌, T, eqb, ltb, ◌↔◌, List, [], ◌∷◌, ◌++◌, length, get_or, sym, refl, ap, ◌∙◌, subst, arith, lit<}
+use Rattle.std.proofs.Common.{◌≡◌, ℕ, zero, suc, ◌<◌, Bool, true, false, cond, ◌&&◌, T, eqb, ltb, List, [], ◌∷◌, ◌++◌, length, get_or, sym, refl, ap, subst, arith, lit<}
 use native.Mathlib.Decide.{ℕ_discrete}
 use Rattle.std.proofs.lemmas.Bool.{eqb-true, ltb-true, lt-ltb}
 use Rattle.std.proofs.lemmas.List.{get_or_append_left, get_or_push, length_push}
-use Rattle.kripke.specs.Ctl.{Formula, truth, NextOnly}
-use Rattle.kripke.specs.Nodes.{Operator, constant, operators, operator, applied, made, formulas, formula, Ordered, LawfulNode, WellFormed, blank}
+use Rattle.kripke.specs.Ctl.{Formula, NextOnly}
+use Rattle.kripke.specs.Nodes.{constant, operators, applied, made, formulas, formula, Ordered, LawfulNode, WellFormed, blank}
 use Rattle.kripke.specs.declared.node.Node.{Node}
 use Rattle.kripke.proofs.Tables.{formula-at}
 use Rattle.refine.specs.Growth.{next_node, Orderly}

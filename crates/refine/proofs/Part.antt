@@ -1,12 +1,12 @@
 -- One class of a partition is parted by a row: its table, its nodes and their formulas.
-use Rattle.std.proofs.Common.{◌≡◌, ℕ, zero, suc, ◌+◌, ◌<◌, ◌≤◌, Bool, true, false, cond, not, ◌&&◌, T, eqb, ◌≢◌, List, length, get_or, set, vec_items, sym, refl, ap, ◌∙◌, subst, add-one, arith}
+use Rattle.std.proofs.Common.{◌≡◌, ℕ, suc, ◌+◌, ◌<◌, ◌≤◌, Bool, true, false, cond, not, ◌&&◌, eqb, ◌≢◌, List, length, get_or, set, vec_items, sym, refl, ap, ◌∙◌, subst, add-one, arith}
 use mathlib.Core.Bool.{beq}
 use Rattle.std.proofs.lemmas.List.{get_or-set_same, get_or-set_other, length-set}
 use Rattle.kripke.specs.Ctl.{Formula, nesting}
 use Rattle.kripke.specs.Nodes.{formula}
 use Rattle.kripke.specs.declared.node.Node.{Node}
 use Rattle.kripke.specs.Classes.{Low, Led}
-use Rattle.refine.specs.Classes.{Here, leaders, bit, sum}
+use Rattle.refine.specs.Classes.{Here, leaders}
 use Rattle.refine.specs.Growth.{Orderly, Extends, Boolean, Conjoined}
 use Rattle.refine.specs.Steps.{at, moved, Odd}
 use Rattle.refine.specs.declared.partition.Partition.{Partition}

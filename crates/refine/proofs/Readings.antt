@@ -1,7 +1,7 @@
 -- What a structure that was read has from the law of its model.
-use Rattle.std.proofs.Common.{◌≡◌, ℕ, ◌<◌, ◌≤◌, List, map, length, sym, ap, ◌∙◌, subst, arith}
+use Rattle.std.proofs.Common.{◌≡◌, ℕ, ◌<◌, ◌≤◌, List, map, length, sym, subst, arith}
 use Rattle.std.proofs.lemmas.List.{length-map}
-use Rattle.kripke.specs.Structure.{Kripke, State, Member, Lawful, size, state, successors}
+use Rattle.kripke.specs.Structure.{Kripke, Member, Lawful, size, state, successors}
 use Rattle.refine.specs.Rows.{state_of, structure}
 use Rattle.refine.specs.declared.row.Row.{Row}
 

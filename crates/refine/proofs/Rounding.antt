@@ -1,20 +1,17 @@
 -- One round: the classes split by each class before, and what that makes of states and their successors.
-use Rattle.std.proofs.Common.{◌≡◌, ℕ, zero, suc, ◌+◌, ◌<◌, ◌≤◌, Bool, true, false, T, eqb, ◌↔◌, List, length, get_or, vec_items, sym, refl, ap, ◌∙◌, subst, arith}
+use Rattle.std.proofs.Common.{◌≡◌, ℕ, suc, ◌+◌, ◌<◌, ◌≤◌, Bool, T, eqb, List, length, get_or, vec_items, sym, refl, ap, ◌∙◌, subst, arith}
 use native.Mathlib.Decide.{ℕ_discrete}
 use Rattle.std.proofs.lemmas.Bool.{eq-eqb, eqb-true}
-use Rattle.kripke.specs.Structure.{Kripke, Member, Closed, size, successors}
+use Rattle.kripke.specs.Structure.{Kripke, Member, Closed, successors}
 use Rattle.kripke.specs.Ctl.{Formula, EX, nesting}
-use Rattle.kripke.specs.Nodes.{made, formulas, formula}
 use Rattle.kripke.specs.Rounds.{Matched, total}
-use Rattle.kripke.specs.Tests.{some}
 use Rattle.kripke.specs.Union.{both}
 use Rattle.kripke.specs.Classes.{Alike, Refined}
-use Rattle.kripke.specs.declared.node.Node.{Node}
 use Rattle.kripke.proofs.Reflect.{some-T}
 use Rattle.kripke.proofs.Unions.{both-size, both-closed}
 use Rattle.refine.specs.Growth.{next_node}
 use Rattle.refine.specs.Tests.{test, hits}
-use Rattle.refine.specs.Steps.{at, node-formula, class_of, class_formula, Exact, Shallow, Few, Keeps, Divided}
+use Rattle.refine.specs.Steps.{at, node-formula, class_of, class_formula, Exact, Shallow, Divided}
 use Rattle.refine.specs.Rounding.{Refining, Rounded}
 use Rattle.refine.specs.declared.partition.Partition.{Partition}
 use Rattle.refine.proofs.Somes.{some_ext, T-yes, bools}

@@ -1,9 +1,9 @@
 -- A state read out of a table's rows, and a numbered state of both structures.
-use Rattle.std.proofs.Common.{◌≡◌, ℕ, ◌+◌, ◌-◌, ◌<◌, ◌≤◌, Bool, false, eqb, List, length, get_or, vec_items, sym, refl, ap, ◌∙◌, subst, zero-add, arith}
-use Rattle.std.proofs.lemmas.List.{get_or-map, get_or_default, length-map}
+use Rattle.std.proofs.Common.{◌≡◌, ℕ, ◌+◌, ◌-◌, ◌<◌, ◌≤◌, false, eqb, List, length, get_or, vec_items, sym, ap, ◌∙◌, zero-add, arith}
+use Rattle.std.proofs.lemmas.List.{get_or-map, length-map}
 use Rattle.refine.specs.Tables.{structure_of}
 use Rattle.refine.specs.declared.table.Table.{Table}
-use Rattle.kripke.specs.Structure.{Kripke, State, Member, Closed, Lawful, answer, size, state, successors}
+use Rattle.kripke.specs.Structure.{Kripke, State, Lawful, answer, size, state, successors}
 use Rattle.kripke.specs.Rounds.{total}
 use Rattle.kripke.specs.Tests.{some}
 use Rattle.kripke.specs.Union.{both}

@@ -1,15 +1,11 @@
 -- The scan of a split: classes parted one after another.
-use Rattle.std.proofs.Common.{◌≡◌, ℕ, zero, suc, ◌+◌, ◌*◌, ◌<◌, ◌≤◌, Bool, true, false, cond, not, ◌&&◌, T, eqb, ltb, ◌⊎◌, ◌↔◌, List, [], ◌∷◌, ◌++◌, length, get_or, set, vec_items, sym, refl, ap, ◌∙◌, subst, inl, inr, ⊎_elim, arith}
+use Rattle.std.proofs.Common.{◌≡◌, ℕ, suc, ◌+◌, ◌<◌, ◌≤◌, Bool, true, false, eqb, List, length, get_or, vec_items, sym, refl, ap, ◌∙◌, subst, ⊎_elim, arith}
 use mathlib.Core.Bool.{beq}
-use native.Mathlib.Decide.{ℕ_discrete, dec_lt}
+use native.Mathlib.Decide.{ℕ_discrete}
 use Rattle.std.proofs.lemmas.Bool.{ne_eqb}
 use Rattle.kripke.specs.Ctl.{Formula, nesting}
-use Rattle.kripke.specs.Nodes.{made, formulas, formula}
-use Rattle.kripke.specs.declared.node.Node.{Node}
-use Rattle.kripke.specs.Classes.{Alike}
-use Rattle.refine.specs.Classes.{leaders, bit, sum}
-use Rattle.refine.specs.Growth.{Extends, Boolean, Begun}
-use Rattle.refine.specs.Steps.{at, node-formula, class_of, class_formula, Exact, Shallow, moved, Stands, Odd, Keeps, Parted, Few, Scanned, Divided}
+use Rattle.refine.specs.Classes.{leaders, bit}
+use Rattle.refine.specs.Steps.{at, node-formula, class_of, Stands, Odd, Keeps, Parted, Few, Scanned}
 use Rattle.refine.specs.declared.partition.Partition.{Partition}
 use Rattle.refine.proofs.Sums.{sum_less, sum_mono, sum_ones, bit_le}
 use Rattle.refine.proofs.Part.{beq_refl}

@@ -1,25 +1,23 @@
 -- Partitions after k rounds: their opening, the next round, whether it split anything, and the number of classes.
-use Rattle.std.proofs.Common.{◌≡◌, ℕ, zero, suc, ◌+◌, ◌-◌, ◌<◌, ◌≤◌, Bool, true, false, cond, T, eqb, ◌⊎◌, ◌↔◌, List, length, get_or, sym, refl, ap, ◌∙◌, subst, inl, inr, ⊎_elim, zero-add, add-one, one-add, arith}
-use mathlib.Core.Bool.{beq}
+use Rattle.std.proofs.Common.{◌≡◌, ℕ, zero, suc, ◌+◌, ◌-◌, ◌<◌, ◌≤◌, true, false, cond, T, eqb, ◌⊎◌, List, length, get_or, sym, ap, ◌∙◌, subst, inl, inr, ⊎_elim, zero-add, one-add, arith}
 use Rattle.std.proofs.lemmas.List.{get_or_past}
-use Rattle.std.proofs.lemmas.Bool.{cases_lt, eqb-true, eqb-false, eq-eqb, ne_eqb}
+use Rattle.std.proofs.lemmas.Bool.{cases_lt, eqb-true, eq-eqb}
 use Rattle.kripke.specs.Structure.{Kripke, State, Closed, Lawful, answer, size, state}
 use Rattle.kripke.specs.Rounds.{Settled, total}
 use Rattle.kripke.specs.Tests.{settled}
 use Rattle.kripke.specs.Union.{both}
-use Rattle.kripke.specs.Classes.{Alike, Low, Led, Numbered, Opened, Refined, Count, none, more, pass, Classes}
+use Rattle.kripke.specs.Classes.{Alike, Low, Led, Numbered, Count, none, more, pass, Classes}
 use Rattle.kripke.proofs.Reflect.{beq-T, settled-T}
 use Rattle.kripke.proofs.Unions.{both_first, both-second}
 use Rattle.kripke.proofs.Classing.{opened_numbered, round_numbered, numbered_to, still_settled, class_of, table-classes}
 use Rattle.refine.specs.Classes.{leaders, bit, sum}
 use Rattle.refine.specs.Tests.{test}
-use Rattle.refine.specs.Steps.{Exact, Shallow, Few, Keeps}
+use Rattle.refine.specs.Steps.{Exact}
 use Rattle.refine.specs.Rounding.{One, Asking, Rounded}
-use Rattle.refine.specs.Stages.{Told, rested}
+use Rattle.refine.specs.Stages.{Told}
 use Rattle.refine.specs.declared.partition.Partition.{Partition}
 use Rattle.refine.proofs.Somes.{bools, T-yes}
 use Rattle.refine.proofs.Sums.{sum_same}
-use Rattle.refine.proofs.Begins.{test_boolean}
 use Rattle.refine.proofs.Step.{eqb_or}
 
 pub told_exact : (u : Kripke) (p : Partition) → Told u p → Exact (test u) p

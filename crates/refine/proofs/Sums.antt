@@ -1,5 +1,5 @@
 -- Sums over the numbers below n, and counts.
-use Rattle.std.proofs.Common.{◌≡◌, ℕ, zero, suc, ◌+◌, ◌<◌, ◌≤◌, Bool, true, false, sym, refl, ap, ◌∙◌, subst, arith}
+use Rattle.std.proofs.Common.{◌≡◌, ℕ, zero, suc, ◌<◌, ◌≤◌, Bool, true, false, sym, refl, subst, arith}
 use native.Mathlib.Decide.{ℕ_discrete}
 use Rattle.refine.specs.Classes.{bit, sum}
 

@@ -1,5 +1,5 @@
 -- A next-only formula passes its test exactly where it holds.
-use Rattle.std.proofs.Common.{◌≡◌, ℕ, ◌<◌, Bool, true, false, not, ◌&&◌, T, ◌↔◌, sym, subst}
+use Rattle.std.proofs.Common.{ℕ, ◌<◌, Bool, true, false, not, T, ◌↔◌, sym, subst}
 use Rattle.kripke.specs.Structure.{Kripke, Closed, Member, size, successors}
 use Rattle.kripke.specs.Ctl.{Formula, truth, question, and, or, EX, AX, EF, AF, EG, AG, EU, AU, Holds, NextOnly}
 use Rattle.kripke.proofs.Reflect.{T_true, and_T, some-T}

@@ -1,5 +1,5 @@
 -- Tables of next-only nodes that grow at their end, and valuations of formulas at numbered states.
-use Rattle.std.specs.Prelude.{◌≡◌, ℕ, suc, ◌+◌, ◌<◌, ◌≤◌, max, Bool, true, false, cond, not, ◌&&◌, T, List, length, ◌==◌, nat_lt, slice_index_or}
+use Rattle.std.specs.Prelude.{◌≡◌, ℕ, suc, ◌+◌, ◌<◌, ◌≤◌, Bool, true, false, cond, not, ◌&&◌, T, List, length, ◌==◌, nat_lt, slice_index_or}
 use Rattle.kripke.specs.Ctl.{Formula, truth, and, nesting}
 use Rattle.kripke.specs.Nodes.{made, formulas, formula, blank}
 use Rattle.kripke.specs.declared.node.Node.{Node}

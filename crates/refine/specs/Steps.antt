@@ -1,10 +1,10 @@
 -- What one split does to a partition.
-use Rattle.std.specs.Prelude.{◌≡◌, ℕ, suc, ◌+◌, ◌*◌, ◌<◌, ◌≤◌, Bool, true, false, cond, not, ◌&&◌, T, ◌↔◌, List, length, vec_items, ◌==◌, slice_index, slice_index_or}
+use Rattle.std.specs.Prelude.{◌≡◌, ℕ, suc, ◌+◌, ◌*◌, ◌<◌, ◌≤◌, Bool, false, cond, not, ◌&&◌, ◌↔◌, List, length, vec_items, ◌==◌, slice_index, slice_index_or}
 use Rattle.std.specs.Bool.{beq}
 use Rattle.kripke.specs.Ctl.{Formula, nesting}
 use Rattle.kripke.specs.Nodes.{made, formulas, formula}
 use Rattle.kripke.specs.declared.node.Node.{Node}
-use Rattle.refine.specs.Growth.{Extends, Boolean, next_node}
+use Rattle.refine.specs.Growth.{Extends, Boolean}
 use Rattle.kripke.specs.Classes.{Alike}
 use Rattle.refine.specs.declared.partition.Partition.{Partition}
 

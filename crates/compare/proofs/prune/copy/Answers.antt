@@ -1,4 +1,4 @@
-use Rattle.std.proofs.Common.{◌≡◌, ℕ, ◌+◌, ◌<◌, Bool, List, [], ◌∷◌, ◌++◌, length, get_or, set, vec_items, vec_capacity, sym, refl, ap, ◌∙◌, subst, arith, length-set, rules}
+use Rattle.std.proofs.Common.{◌≡◌, ℕ, ◌+◌, ◌<◌, Bool, List, length, get_or, vec_items, vec_capacity, sym, ap, ◌∙◌, subst, arith, length-set, rules}
 use Rattle.std.proofs.lemmas.List.{get_or_read}
 use Rattle.kripke.specs.Nodes.{blank}
 use Rattle.kripke.specs.declared.node.Node.{Node}
@@ -20,11 +20,11 @@ loop-i-preserved c =
           let r : w.renamed.result ≡ rename c.loop-i.to (get_or ns i blank) =
           w.renamed.ensures ∙ ap (λ (n : Node). rename c.loop-i.to n) (get_or_read ns i w.index.result.now l w.index.ensures blank) in (
             ap length w.to-is ∙ length-set c.loop-i.to i w.len-m.result ∙ c.loop-i.invariant.0,
-            omega (arith, ap (λ v. vec_capacity v) w.out-is ∙ w.push-reserved.ensures.capacity, c.loop-i.invariant.1),
+            omega (arith, ap (λ v. vec_capacity v) w.out-is ∙ w.push_reserved.ensures.capacity, c.loop-i.invariant.1),
             subst (λ (z : List ℕ). Copied p.questions ns ks (i + 1) z (vec_items c.if-reached-i.out)) (sym w.to-is)
                 (copied_push p.questions ns ks i c.loop-i.to w.len-m.result (vec_items c.loop-i.out) (vec_items c.if-reached-i.out) w.renamed.result
                 p.orderly l (omega (arith, l, c.requires.few, c.loop-i.invariant.0)) (c.requires.marked.closed i (omega arith) w.if-reached-i.true) w.if-reached-i.true r m
-                (ap (λ v. vec_items v) w.out-is ∙ w.push-reserved.ensures.items) c.loop-i.invariant.2),
+                (ap (λ v. vec_items v) w.out-is ∙ w.push_reserved.ensures.items) c.loop-i.invariant.2),
           ))
       | else-reached-i w ↦ (
         ap length w.to-is ∙ c.loop-i.invariant.0,

@@ -1,4 +1,4 @@
-use Rattle.std.proofs.Common.{◌≡◌, ℕ, suc, ◌+◌, ◌-◌, ◌<◌, Bool, true, false, cond, T, List, length, get_or, set, replicate, vec_items, sym, refl, ap, ◌∙◌, subst, arith, length-set}
+use Rattle.std.proofs.Common.{◌≡◌, ℕ, suc, ◌-◌, ◌<◌, Bool, true, false, cond, T, List, length, get_or, set, replicate, vec_items, sym, ap, ◌∙◌, subst, arith, length-set}
 use lib.ListN.{length-replicate}
 use Rattle.std.proofs.lemmas.List.{get_or_read}
 use Rattle.kripke.specs.Nodes.{blank}
@@ -24,7 +24,7 @@ mark-requires c = λ e.
     let n : Node = c.index-n.result.now in
     let l : i < length (vec_items p.nodes) = omega (arith, c.loop-i.invariant.1) in
     let r : n ≡ get_or (vec_items p.nodes) i blank = get_or_read (vec_items p.nodes) i n l c.index-n.ensures blank in
-    omega (arith, l, c.requires.few, names_a p.questions i n (subst (λ (m : Node). T (next_node p.questions i m)) (sym r) (p.orderly i l)) (sym c.uses-a.ensures ∙ e))
+    omega (arith, l, c.requires.few, names_a p.questions i n (subst (λ (m : Node). T (next_node p.questions i m)) (sym r) (p.orderly i l)) (sym c.uses_a.ensures ∙ e))
 
 pub mark-requires-then-reached-i : goal.mark-requires-then-reached-i
 mark-requires-then-reached-i c = λ e.
@@ -33,7 +33,7 @@ mark-requires-then-reached-i c = λ e.
     let n : Node = c.index-n.result.now in
     let l : i < length (vec_items p.nodes) = omega (arith, c.loop-i.invariant.1) in
     let r : n ≡ get_or (vec_items p.nodes) i blank = get_or_read (vec_items p.nodes) i n l c.index-n.ensures blank in
-    omega (arith, l, c.requires.few, names_b p.questions i n (subst (λ (m : Node). T (next_node p.questions i m)) (sym r) (p.orderly i l)) (sym c.uses-b.ensures ∙ e))
+    omega (arith, l, c.requires.few, names_b p.questions i n (subst (λ (m : Node). T (next_node p.questions i m)) (sym r) (p.orderly i l)) (sym c.uses_b.ensures ∙ e))
 
 pub loop-i-preserved-then-reached-i : goal.loop-i-preserved-then-reached-i
 loop-i-preserved-then-reached-i c =
@@ -50,11 +50,11 @@ loop-i-preserved-then-reached-i c =
       omega (arith, c.loop-i.invariant.1),
       marking_more p.questions ns c.args.root i c.loop-i.i c.loop-i.reached c.mark.new.reached c.mark-then-reached-i.new.reached
           s p.orderly l c.if-reached-i.true
-          (marks c.uses-a.result (usesA n) n.a c.loop-i.reached c.mark.new.reached (c.uses-a.ensures ∙ ap usesA r)
+          (marks c.uses_a.result (usesA n) n.a c.loop-i.reached c.mark.new.reached (c.uses_a.ensures ∙ ap usesA r)
           (λ e. omega (arith, names_a p.questions i n f e, l, c.requires.few, c.loop-i.invariant.0))
-          (subst (λ (z : Node). c.mark.new.reached ≡ cond c.uses-a.result (set c.loop-i.reached z.a true) c.loop-i.reached) r c.mark.ensures))
-          (marks c.uses-b.result (usesB n) n.b c.mark.new.reached c.mark-then-reached-i.new.reached (c.uses-b.ensures ∙ ap usesB r)
+          (subst (λ (z : Node). c.mark.new.reached ≡ cond c.uses_a.result (set c.loop-i.reached z.a true) c.loop-i.reached) r c.mark.ensures))
+          (marks c.uses_b.result (usesB n) n.b c.mark.new.reached c.mark-then-reached-i.new.reached (c.uses_b.ensures ∙ ap usesB r)
           (λ e. omega (arith, names_b p.questions i n f e, l, c.requires.few, c.mark.array_long))
-          (subst (λ (z : Node). c.mark-then-reached-i.new.reached ≡ cond c.uses-b.result (set c.mark.new.reached z.b true) c.mark.new.reached) r c.mark-then-reached-i.ensures))
+          (subst (λ (z : Node). c.mark-then-reached-i.new.reached ≡ cond c.uses_b.result (set c.mark.new.reached z.b true) c.mark.new.reached) r c.mark-then-reached-i.ensures))
           c.loop-i.invariant.2,
     )

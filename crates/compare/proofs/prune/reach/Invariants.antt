@@ -1,4 +1,4 @@
-use Rattle.std.proofs.Common.{◌≡◌, ℕ, ◌+◌, ◌≤◌, length, vec_items}
+use Rattle.std.proofs.Common.{◌≡◌, ◌+◌, ◌≤◌, length, vec_items}
 use Rattle.compare.specs.Reach.{Marking}
 use Rattle.compare.proofs.prune.reach.Given as goal
 

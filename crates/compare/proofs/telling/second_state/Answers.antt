@@ -1,4 +1,4 @@
-use Rattle.std.proofs.Common.{◌≡◌, length, vec_items, refl, arith, rules}
+use Rattle.std.proofs.Common.{◌≡◌, length, vec_items, arith, rules}
 use Rattle.refine.proofs.Rowed.{row_size}
 use Rattle.compare.proofs.Levels.{other_in}
 use Rattle.compare.proofs.telling.second_state.Goals as goal

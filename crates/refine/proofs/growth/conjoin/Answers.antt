@@ -1,4 +1,4 @@
-use Rattle.std.proofs.Common.{◌≡◌, length, get_or, vec_items, sym, ap, ◌∙◌, rules}
+use Rattle.std.proofs.Common.{◌≡◌, length, vec_items, sym, ap, ◌∙◌, rules}
 use Rattle.std.proofs.lemmas.List.{get_or_read}
 use Rattle.kripke.specs.Nodes.{blank}
 use Rattle.kripke.specs.declared.node.Node.{Node}
@@ -18,7 +18,7 @@ pub returns : goal.returns
 returns c =
     let l : length (vec_items c.args.nodes.now) ≡ c.len-r.result = search rules in
     record {
-      conjoined = conjoined_new (vec_items c.args.nodes.now) (vec_items c.push-reserved.new.self) c.args.a c.args.b c.len-r.result c.requires.first c.requires.second l
-          c.push-reserved.ensures.items;
+      conjoined = conjoined_new (vec_items c.args.nodes.now) (vec_items c.push_reserved.new.self) c.args.a c.args.b c.len-r.result c.requires.first c.requires.second l
+          c.push_reserved.ensures.items;
       room = search rules;
     }

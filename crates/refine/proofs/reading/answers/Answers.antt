@@ -6,7 +6,7 @@ pub loop-i-preserved : goal.loop-i-preserved
 loop-i-preserved g c =
     let xs = g.L.Label.answers c.args.label.now in
     let l : c.loop-i.i < length xs = omega (arith, c.loop-i.invariant.0, g.met.L.Label.answered c.args.label.now) in
-    (c.loop-i.invariant.0, fill_more xs c.loop-i.i false _ _ c.answer.result l c.loop-i.invariant.1 c.answer.ensures c.in-ok-push.ensures.items)
+    (c.loop-i.invariant.0, fill_more xs c.loop-i.i false _ _ c.answer.result l c.loop-i.invariant.1 c.answer.ensures c.in_ok-push.ensures.items)
 
 pub returns : goal.returns
 returns g c =

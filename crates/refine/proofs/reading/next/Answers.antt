@@ -7,7 +7,7 @@ pub loop-i-preserved : goal.loop-i-preserved
 loop-i-preserved g c =
     let xs = successors (g.M.Model.meaning c.args.model.now) c.args.s in
     let l : c.loop-i.i < length xs = omega (arith, c.loop-i.invariant.0) in
-    (c.loop-i.invariant.0, fill_more xs c.loop-i.i (get_or xs 0 0) _ _ c.successor.result l c.loop-i.invariant.1 c.successor.ensures c.in-ok-push.ensures.items)
+    (c.loop-i.invariant.0, fill_more xs c.loop-i.i (get_or xs 0 0) _ _ c.successor.result l c.loop-i.invariant.1 c.successor.ensures c.in_ok-push.ensures.items)
 
 pub returns : goal.returns
 returns g c =

@@ -1,6 +1,5 @@
-use Rattle.std.proofs.Common.{◌≡◌, ℕ, suc, ◌<◌, ◌≤◌, Bool, true, false, sym, refl, ap, ◌∙◌, subst, inl, inr, arith}
+use Rattle.std.proofs.Common.{◌≡◌, ℕ, suc, false, sym, ap, ◌∙◌, subst}
 use Rattle.std.proofs.lemmas.Bool.{or_parts}
-use Rattle.kripke.specs.Structure.{Kripke}
 use Rattle.kripke.specs.Classes.{Classes}
 use Rattle.refine.specs.declared.pair.Pair.{Pair}
 use Rattle.refine.specs.declared.refinement.Refinement.{Refinement}
@@ -28,15 +27,20 @@ counted r s n d w =
     subst (λ (k : ℕ). Classes (first_of r.pair) (second_of r.pair) k n) w.1
     (subst (λ (p : Pair). Classes (first_of p) (second_of p) s.rounds n) w.0 d.classes)
 
-pub invariant-of-self : goal.invariant-of-self
-invariant-of-self c =
+pub invariant_of-self : goal.invariant_of-self
+invariant_of-self c =
     let s = c.args.self.now in
     let e = c.requires in
     let w = went s.stages c.round-count.new.self c.round-count.result c.round-count.ensures e in
-    let k = c.keep.ensures.kept in (
-      fresh s.stages c.round-count.new.self w e s.open,
-      (c.keep.ensures.room, (k.few, (k.orderly, (λ i l. ∣ k.useful i l ∣₁, (k.telling, tt))))),
-    )
+    let k = c.keep.ensures.kept in
+    record {
+      «open» = fresh s.stages c.round-count.new.self w e s.open;
+      room = c.keep.ensures.room;
+      few = k.few;
+      orderly = k.orderly;
+      useful = λ i l. ∣ k.useful i l ∣₁;
+      telling = k.telling;
+    }
 
 pub returns : goal.returns
 returns c =

@@ -1,4 +1,4 @@
-use Rattle.std.proofs.Common.{◌≡◌, ℕ, suc, List, sym, refl, ap, ◌∙◌, subst}
+use Rattle.std.proofs.Common.{ℕ, List, sym, refl, ap, ◌∙◌, subst}
 use Rattle.kripke.specs.declared.node.Node.{Node}
 use Rattle.compare.specs.Answers.{Separating}
 use Rattle.compare.specs.Calls.{first, second, questions, rounds}
@@ -65,21 +65,21 @@ returns-in-Err-verdict c =
       kept = kept_same s s _ refl (λ ns. tt);
     }
 
-pub returns-in-Ok-from-slice : goal.returns-in-Ok-from-slice
-returns-in-Ok-from-slice c =
+pub returns-in-Ok-from_slice : goal.returns-in-Ok-from_slice
+returns-in-Ok-from_slice c =
     let s = c.args.self.now in
     let h = c.in-Ok-told.ensures in
     let p : ℕ = c.in-Formula.places in
     record {
-      law = law_at s s _ _ _ _ c.in-Formula.is refl (told p c.in-Ok-from-slice.v h.0
-          (subst (λ (ns : List Node). Separating (first s) (second s) (questions s) (rounds s) ns) (sym (c.in-Ok-from-slice.ensures.made.0 ∙ h.1.0))
+      law = law_at s s _ _ _ _ c.in-Formula.is refl (told p c.in-Ok-from_slice.v h.0
+          (subst (λ (ns : List Node). Separating (first s) (second s) (questions s) (rounds s) ns) (sym (c.in-Ok-from_slice.ensures.items ∙ h.1.0))
           h.1.1.separating));
       same = same_still s s refl;
-      kept = kept_formula s _ p h.0 (c.in-Ok-from-slice.ensures.made.0 ∙ h.1.0);
+      kept = kept_formula s _ p h.0 (c.in-Ok-from_slice.ensures.items ∙ h.1.0);
     }
 
-pub returns-in-Err-from-slice : goal.returns-in-Err-from-slice
-returns-in-Err-from-slice c =
+pub returns-in-Err-from_slice : goal.returns-in-Err-from_slice
+returns-in-Err-from_slice c =
     let s = c.args.self.now in
     record {
       law = law_at s s _ _ _ _ c.in-Formula.is refl (no_memory c.in-Formula.places c.in-Ok-told.ensures.0);

@@ -1,4 +1,4 @@
-use Rattle.std.proofs.Common.{◌≡◌, ℕ, suc, ◌+◌, ◌<◌, ◌≤◌, length, vec_items, vec_len, vec_capacity, sym, refl, ap, ◌∙◌, subst, arith, rules}
+use Rattle.std.proofs.Common.{ℕ, ◌<◌, ◌≤◌, length, refl, rules}
 use Rattle.compare.specs.Calls.{first, second, questions, rounds}
 use Rattle.compare.proofs.Lists.{run_none, run_step, run_all, law_from, same_still, same_trans}
 use Rattle.compare.proofs.Steadily.{kept_none, kept_more}
@@ -20,8 +20,8 @@ loop-request-preserved c =
       search rules,
       same_trans s t _ inv.2 c.answer-answer.ensures.same,
       run_step (first s) (second s) (questions s) (rounds s) c.args.requests.now i _ _ c.answer-answer.result (rounds t) _ l inv.3
-          (law_from s t _ _ _ inv.2 c.answer-answer.ensures.law) c.push-reserved.ensures.items,
-      kept_more s t _ _ _ c.answer-answer.result inv.4 c.answer-answer.ensures.kept c.push-reserved.ensures.items,
+          (law_from s t _ _ _ inv.2 c.answer-answer.ensures.law) c.push_reserved.ensures.items,
+      kept_more s t _ _ _ c.answer-answer.result inv.4 c.answer-answer.ensures.kept c.push_reserved.ensures.items,
     )
 
 pub returns : goal.returns

@@ -1,4 +1,4 @@
-use Rattle.std.proofs.Common.{◌≡◌, ℕ, ◌≤◌, length, take, vec_items, vec_len, vec_capacity}
+use Rattle.std.proofs.Common.{◌≡◌, ◌≤◌, length, take, vec_items, vec_len, vec_capacity}
 use Rattle.compare.specs.Calls.{Same, first, second, questions, rounds}
 use Rattle.compare.specs.Law.{Run, Kept}
 use Rattle.compare.proofs.comparison.Comparison.answer_all.Given as goal

@@ -1,4 +1,3 @@
-use Rattle.std.proofs.Common.{◌≡◌, sym, refl, ap, ◌∙◌, subst}
 use Rattle.compare.specs.Calls.{first, second, questions, rounds}
 use Rattle.compare.proofs.Levels.{first_lawful, second_lawful}
 use Rattle.compare.proofs.Rulings.{decides}

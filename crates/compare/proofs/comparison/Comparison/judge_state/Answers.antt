@@ -1,4 +1,4 @@
-use Rattle.std.proofs.Common.{◌≡◌, ◌<◌, sym, subst, arith}
+use Rattle.std.proofs.Common.{◌<◌, sym, subst, arith}
 use Rattle.kripke.specs.Refusals.{First}
 use Rattle.kripke.specs.Rounds.{total}
 use Rattle.kripke.specs.declared.refusal.Refusal.{Refusal}

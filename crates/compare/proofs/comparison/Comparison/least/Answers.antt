@@ -1,4 +1,4 @@
-use Rattle.std.proofs.Common.{◌≡◌, ℕ, ◌<◌, ◌≤◌, get_or, subst, arith}
+use Rattle.std.proofs.Common.{ℕ, ◌<◌, get_or, subst, arith}
 use Rattle.kripke.specs.Structure.{Kripke}
 use Rattle.kripke.specs.Classes.{Low, Led}
 use Rattle.kripke.specs.Rounds.{total}

@@ -1,9 +1,14 @@
 use Rattle.std.proofs.Common.{arith}
 use Rattle.compare.proofs.comparison.Comparison.open.Goals as goal
 
-pub invariant-of-result : goal.invariant-of-result
-invariant-of-result g c =
-    let k = c.keep.ensures.kept in (
-      λ j l. absurd (omega (arith, l, c.in-ok-stages.ensures.rounds)),
-      (c.keep.ensures.room, (k.few, (k.orderly, (λ i l. ∣ k.useful i l ∣₁, (k.telling, tt))))),
-    )
+pub invariant_of-result : goal.invariant_of-result
+invariant_of-result g c =
+    let k = c.keep.ensures.kept in
+    record {
+      «open» = λ j l. absurd (omega (arith, l, c.in_ok-stages.ensures.rounds));
+      room = c.keep.ensures.room;
+      few = k.few;
+      orderly = k.orderly;
+      useful = λ i l. ∣ k.useful i l ∣₁;
+      telling = k.telling;
+    }

@@ -1,4 +1,4 @@
-use Rattle.std.proofs.Common.{◌≡◌, ℕ, ◌-◌, ◌<◌, ◌≤◌, length, vec_items, sym, ap, ◌∙◌, subst, arith, rules}
+use Rattle.std.proofs.Common.{◌≡◌, ℕ, ◌-◌, length, vec_items, ap, ◌∙◌, arith, rules}
 use Rattle.kripke.specs.Structure.{size}
 use Rattle.refine.specs.Tests.{leads}
 use Rattle.refine.specs.Pairs.{first_of, second_of}

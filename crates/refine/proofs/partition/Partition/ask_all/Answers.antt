@@ -1,6 +1,5 @@
-use Rattle.std.proofs.Common.{◌≡◌, ℕ, ◌+◌, ◌<◌, ◌≤◌, Bool, List, sym, refl, ap, ◌∙◌, subst, arith, rules}
+use Rattle.std.proofs.Common.{arith}
 use Rattle.refine.specs.Pairs.{both_of}
-use Rattle.refine.specs.declared.partition.Partition.{Partition}
 use Rattle.refine.proofs.Orders.{T_and, lt_T}
 use Rattle.refine.proofs.Begins.{asking_none, asking_more}
 use Rattle.refine.proofs.partition.Partition.ask_all.Goals as goal
@@ -16,7 +15,7 @@ split-requires c = record {
 
 pub loop-q-preserved : goal.loop-q-preserved
 loop-q-preserved c = (
-  asking_more (both_of c.args.pair.now) c.args.self.now c.loop-q.self c.split.new.self c.loop-q.q c.answer-row-row.result c.loop-q.invariant.0
-      (λ s h. c.answer-row-row.ensures s (omega (arith, h, c.requires.long))) c.split.ensures.divided,
+  asking_more (both_of c.args.pair.now) c.args.self.now c.loop-q.self c.split.new.self c.loop-q.q c.answer_row-row.result c.loop-q.invariant.0
+      (λ s h. c.answer_row-row.ensures s (omega (arith, h, c.requires.long))) c.split.ensures.divided,
   c.split.ensures.few,
 )

@@ -1,4 +1,3 @@
-use Rattle.std.proofs.Common.{◌≡◌}
 use Rattle.refine.specs.Pairs.{both_of}
 use Rattle.refine.specs.Steps.{Few}
 use Rattle.refine.specs.Rounding.{Asking}

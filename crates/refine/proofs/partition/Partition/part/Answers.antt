@@ -1,22 +1,29 @@
-use Rattle.std.proofs.Common.{◌≡◌, ℕ, suc, ◌+◌, ◌<◌, ◌≤◌, Bool, cond, List, length, get_or, vec_items, sym, refl, ap, ◌∙◌, subst, add-one, arith, rules}
-use Rattle.refine.specs.Steps.{at}
+use Rattle.std.proofs.Common.{suc, ◌+◌, ◌<◌, sym, refl, ap, ◌∙◌, add-one, arith, rules}
 use Rattle.refine.specs.declared.partition.Partition.{Partition}
 use Rattle.refine.proofs.Part.{Cut, cut, part_low, part_led, part_here, part-exact, part_shallow, part_orderly, part_leaders, part_extends, part_nodes}
 use Rattle.refine.proofs.Scan.{odd_fewer}
 use Rattle.refine.proofs.partition.Partition.part.Goals as goal
 
-pub overflow-add-self : goal.overflow-add-self
-overflow-add-self c =
+pub overflow_add-self : goal.overflow_add-self
+overflow_add-self c =
     let p : Partition = c.args.self.now in
     let l : p.count + 1 < 65536 = omega (arith, odd_fewer p c.args.s c.args.row.now c.requires.odd, p.counted, p.few) in
     search rules
 
-pub invariant-of-self : goal.invariant-of-self
-invariant-of-self c =
+pub invariant_of-self : goal.invariant_of-self
+invariant_of-self c =
     let p : Partition = c.args.self.now in
     let k : Cut = cut c.args.self.now c.args.s c.args.x c.args.row.now c.requires.odd c.requires.inside (search rules)
     c.pick-stays.result c.pick-leaves.result c.pick-stays.ensures c.pick-leaves.ensures _ _ _ _ c.conjoin-stay.ensures.conjoined c.conjoin-leave.ensures.conjoined _ c.renumber.ensures in
-    (p.few, (c.conjoin-leave.ensures.room, (part_low k, (part_led k, (part_here k, (part_orderly k, (add-one p.count ∙ ap suc p.counted ∙ sym (part_leaders k), tt)))))))
+    record {
+      few = p.few;
+      room = c.conjoin-leave.ensures.room;
+      low = part_low k;
+      led = part_led k;
+      here = part_here k;
+      orderly = part_orderly k;
+      counted = add-one p.count ∙ ap suc p.counted ∙ sym (part_leaders k);
+    }
 
 pub returns : goal.returns
 returns c =

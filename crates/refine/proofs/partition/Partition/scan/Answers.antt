@@ -1,5 +1,5 @@
-use Rattle.std.proofs.Common.{◌≡◌, suc, ◌+◌, ◌<◌, length, vec_items, sym, refl, ap, ◌∙◌, subst, arith}
-use Rattle.refine.specs.Steps.{Odd, Scanned, Few}
+use Rattle.std.proofs.Common.{suc, ◌+◌, ◌<◌, length, vec_items, sym, ◌∙◌, subst, arith}
+use Rattle.refine.specs.Steps.{Scanned, Few}
 use Rattle.refine.specs.declared.partition.Partition.{Partition}
 use Rattle.refine.proofs.Scan.{room_left, odd_here, scanned_start, scanned_skip, scanned_step, few_step}
 use Rattle.refine.proofs.partition.Partition.scan.Goals as goal

@@ -1,20 +1,20 @@
-use Rattle.std.proofs.Common.{◌≡◌, ℕ, suc, ◌+◌, ◌<◌, ◌≤◌, sym, refl, ap, ◌∙◌, subst, arith}
+use Rattle.std.proofs.Common.{ℕ, refl, arith}
 use Rattle.refine.specs.declared.partition.Partition.{Partition}
 use Rattle.refine.proofs.Scan.{room_left}
-use Rattle.refine.proofs.Divide.{Started, start_odd, start-scanned, start-few, divided}
+use Rattle.refine.proofs.Divide.{Started, start-scanned, start-few, divided}
 use Rattle.refine.proofs.partition.Partition.split.Goals as goal
 
 pub begin-x-requires : goal.begin-x-requires
 begin-x-requires c =
     let p : Partition = c.args.self.now in
-    record { few = omega (arith, room_left p c.first-odd-s.result c.args.row.now (c.first-odd-s.ensures.found c.if-s-self.true) c.requires.few); room = p.room }
+    record { few = omega (arith, room_left p c.first_odd-s.result c.args.row.now (c.first_odd-s.ensures.found c.if-s-self.true) c.requires.few); room = p.room }
 
 pub part-requires : goal.part-requires
 part-requires c =
     let p : Partition = c.args.self.now in
-    let o = c.first-odd-s.ensures.found c.if-s-self.true in
+    let o = c.first_odd-s.ensures.found c.if-s-self.true in
     record {
-      room = omega (arith, room_left p c.first-odd-s.result c.args.row.now o c.requires.few, c.begin-x.ensures.begun.count);
+      room = omega (arith, room_left p c.first_odd-s.result c.args.row.now o c.requires.few, c.begin-x.ensures.begun.count);
       inside = c.begin-x.ensures.begun.inside;
       odd = record { state = o.state; odd = o.odd; first = o.first };
     }
@@ -23,8 +23,8 @@ pub scan-requires : goal.scan-requires
 scan-requires c =
     let p : Partition = c.args.self.now in
     let x : ℕ = c.begin-x.result in
-    let s : ℕ = c.first-odd-s.result in
-    let o = c.first-odd-s.ensures.found c.if-s-self.true in
+    let s : ℕ = c.first_odd-s.result in
+    let o = c.first_odd-s.ensures.found c.if-s-self.true in
     let st : Started p _ c.args.test x = record { states = refl; questions = refl; class = refl; node = refl; count = refl; begun = c.begin-x.ensures.begun } in
     let d = c.part.ensures in
     record {
@@ -38,8 +38,8 @@ pub returns-then-s-self : goal.returns-then-s-self
 returns-then-s-self c =
     let p : Partition = c.args.self.now in
     let x : ℕ = c.begin-x.result in
-    let s : ℕ = c.first-odd-s.result in
-    let o = c.first-odd-s.ensures.found c.if-s-self.true in
+    let s : ℕ = c.first_odd-s.result in
+    let o = c.first_odd-s.ensures.found c.if-s-self.true in
     let st : Started p _ c.args.test x = record { states = refl; questions = refl; class = refl; node = refl; count = refl; begun = c.begin-x.ensures.begun } in
     record {
       divided = divided p _ c.args.test x st c.part.new.self s c.args.row.now o c.part.ensures c.scan.new.self c.scan.ensures.scanned;

@@ -1,38 +1,29 @@
-use Rattle.std.proofs.Common.{◌≡◌, ℕ, ◌+◌, ◌≤◌, List, [], ◌∷◌, ◌++◌, length, replicate, vec_items, sym, refl, ap, ◌∙◌, arith, rules}
+use Rattle.std.proofs.Common.{◌≡◌, ℕ, List, [], ◌∷◌, ◌++◌, replicate, vec_items, refl, ap, ◌∙◌, arith, rules}
 use Rattle.kripke.specs.Nodes.{blank}
 use Rattle.kripke.specs.declared.node.Node.{Node}
 use Rattle.refine.proofs.Begins.{zeros, one_long, one_low, one_led, one_here, one_exact, one_shallow, one_orderly, one_count}
 use Rattle.refine.proofs.partition.Partition.whole.Goals as goal
 
-pub invariant-of-result : goal.invariant-of-result
-invariant-of-result c =
+pub invariant_of-result : goal.invariant_of-result
+invariant_of-result c =
     let z : List ℕ = replicate 512 0 in
-    let ns : List Node = vec_items c.push-reserved.new.self in
-    let e : ns ≡ [] ++ blank ∷ [] = c.push-reserved.ensures.items ∙ ap (λ (l : List Node). l ++ blank ∷ []) c.in-ok-nodes.ensures.items in (
-      c.requires.few,
-      (
-        search rules,
-        (
-          one_low z z (zeros 512) (zeros 512) ns e c.args.states,
-          (
-            one_led z z (zeros 512) (zeros 512) ns e c.args.states,
-            (
-              one_here z z (zeros 512) (zeros 512) ns e c.args.states,
-              (
-                one_orderly z z (zeros 512) (zeros 512) ns e c.args.questions,
-                (one_count z z (zeros 512) (zeros 512) ns e c.args.states c.requires.some, tt),
-              ),
-            ),
-          ),
-        ),
-      ),
-    )
+    let ns : List Node = vec_items c.push_reserved.new.self in
+    let e : ns ≡ [] ++ blank ∷ [] = c.push_reserved.ensures.items ∙ ap (λ (l : List Node). l ++ blank ∷ []) c.in_ok-nodes.ensures.items in
+    record {
+      few = c.requires.few;
+      room = search rules;
+      low = one_low z z (zeros 512) (zeros 512) ns e c.args.states;
+      led = one_led z z (zeros 512) (zeros 512) ns e c.args.states;
+      here = one_here z z (zeros 512) (zeros 512) ns e c.args.states;
+      orderly = one_orderly z z (zeros 512) (zeros 512) ns e c.args.questions;
+      counted = one_count z z (zeros 512) (zeros 512) ns e c.args.states c.requires.some;
+    }
 
 pub returns : goal.returns
 returns c =
     let z : List ℕ = replicate 512 0 in
-    let ns : List Node = vec_items c.push-reserved.new.self in
-    let e : ns ≡ [] ++ blank ∷ [] = c.push-reserved.ensures.items ∙ ap (λ (l : List Node). l ++ blank ∷ []) c.in-ok-nodes.ensures.items in
+    let ns : List Node = vec_items c.push_reserved.new.self in
+    let e : ns ≡ [] ++ blank ∷ [] = c.push_reserved.ensures.items ∙ ap (λ (l : List Node). l ++ blank ∷ []) c.in_ok-nodes.ensures.items in
     record {
       states_is = refl;
       questions_is = refl;

@@ -1,4 +1,4 @@
-use Rattle.std.proofs.Common.{◌≡◌, ℕ, suc, ◌+◌, ◌<◌, ◌≤◌, Bool, true, false, cond, eqb, sym, refl, ap, ◌∙◌, subst, add-one, arith, rules}
+use Rattle.std.proofs.Common.{◌≡◌, ℕ, suc, ◌+◌, ◌<◌, ◌≤◌, Bool, cond, eqb, sym, ◌∙◌, subst, add-one, arith, rules}
 use Rattle.refine.proofs.Scan.{count_le}
 use Rattle.kripke.specs.Structure.{Kripke}
 use Rattle.kripke.specs.Classes.{Numbered}
@@ -12,15 +12,15 @@ use Rattle.refine.proofs.Rowed.{table_lawful}
 use Rattle.refine.proofs.Staging.{told_exact, exact_told, next_numbered, next_rests, next_pace}
 use Rattle.refine.proofs.refinement.Refinement.advance.Goals as goal
 
-pub overflow-add-self : goal.overflow-add-self
-overflow-add-self c =
+pub overflow_add-self : goal.overflow_add-self
+overflow_add-self c =
     let r : Refinement = c.args.self.now in
     let pace : suc r.rounds ≤ r.parts.count = subst (λ (z : Bool). cond z r.rounds (suc r.rounds) ≤ r.parts.count) c.requires r.pace in
     let l : r.rounds + 1 < 18446744073709551616 = omega (arith, pace, count_le r.parts, r.parts.few) in
     search rules
 
-pub invariant-of-self : goal.invariant-of-self
-invariant-of-self c =
+pub invariant_of-self : goal.invariant_of-self
+invariant_of-self c =
     let r : Refinement = c.args.self.now in
     let a : Kripke = first_of r.pair in
     let b : Kripke = second_of r.pair in
@@ -32,25 +32,16 @@ invariant-of-self c =
     let d = c.round-self.ensures.rounded in
     let k1 : suc k ≡ k + 1 = sym (add-one k) in
     let b0 : c.round-self.result ≡ eqb q.count p.count = c.round-self.ensures.rests in
-    let pace : suc k ≤ p.count = subst (λ (z : Bool). cond z k (suc k) ≤ p.count) c.requires r.pace in (
-      d.keeps.states ∙ r.long,
-      (
-        d.keeps.questions ∙ r.asks,
-        (
-          c.round-self.ensures.few,
-          (
-            exact_told (both a b) q (d.exact (told_exact (both a b) p r.told)),
-            (
-              subst (λ (n : ℕ). Shallow n q) k1 (d.shallow k r.shallow),
-              (
-                subst (λ (n : ℕ). Numbered a b n q.class) k1 (next_numbered a b la lb k p q r.long r.numbered d),
-                (
-                  b0 ∙ subst (λ (n : ℕ). eqb q.count p.count ≡ rested a b n) k1 (next_rests a b la lb k p q r.long r.numbered d),
-                  (subst (λ (z : Bool). cond z (k + 1) (suc (k + 1)) ≤ q.count) (sym b0) (subst (λ (n : ℕ). cond (eqb q.count p.count) n (suc n) ≤ q.count) k1 (next_pace a b la lb k p q r.long r.numbered d pace)), tt),
-                ),
-              ),
-            ),
-          ),
-        ),
-      ),
-    )
+    let pace : suc k ≤ p.count = subst (λ (z : Bool). cond z k (suc k) ≤ p.count) c.requires r.pace in
+    record {
+      long = d.keeps.states ∙ r.long;
+      asks = d.keeps.questions ∙ r.asks;
+      few = c.round-self.ensures.few;
+      told = exact_told (both a b) q (d.exact (told_exact (both a b) p r.told));
+      shallow = subst (λ (n : ℕ). Shallow n q) k1 (d.shallow k r.shallow);
+      numbered = subst (λ (n : ℕ). Numbered a b n q.class) k1 (next_numbered a b la lb k p q r.long r.numbered d);
+      last = b0 ∙ subst (λ (n : ℕ). eqb q.count p.count ≡ rested a b n) k1 (next_rests a b la lb k p q r.long r.numbered d);
+      pace =
+          subst (λ (z : Bool). cond z (k + 1) (suc (k + 1)) ≤ q.count) (sym b0)
+          (subst (λ (n : ℕ). cond (eqb q.count p.count) n (suc n) ≤ q.count) k1 (next_pace a b la lb k p q r.long r.numbered d pace));
+    }

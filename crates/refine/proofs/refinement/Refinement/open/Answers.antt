@@ -1,6 +1,5 @@
-use Rattle.std.proofs.Common.{◌≡◌, ℕ, ◌≤◌, sym, refl, ap, ◌∙◌, subst, arith}
+use Rattle.std.proofs.Common.{◌≡◌, ℕ, sym, refl, ◌∙◌, subst, arith}
 use Rattle.kripke.specs.Structure.{Kripke, Lawful}
-use Rattle.kripke.specs.Rounds.{total}
 use Rattle.kripke.specs.Union.{both}
 use Rattle.refine.specs.Tests.{test}
 use Rattle.refine.specs.Tables.{structure_of}
@@ -11,38 +10,27 @@ use Rattle.refine.proofs.Begins.{test_boolean}
 use Rattle.refine.proofs.Staging.{exact_told, opening_numbered}
 use Rattle.refine.proofs.refinement.Refinement.open.Goals as goal
 
-pub invariant-of-result : goal.invariant-of-result
-invariant-of-result g c =
-    let f : Table = c.in-ok-first.first in
-    let s : Table = c.in-ok-second.second in
-    let a : Kripke = structure_of c.in-ok-first.first in
-    let b : Kripke = structure_of c.in-ok-second.second in
+pub invariant_of-result : goal.invariant_of-result
+invariant_of-result g c =
+    let f : Table = c.in_ok-first.first in
+    let s : Table = c.in_ok-second.second in
+    let a : Kripke = structure_of c.in_ok-first.first in
+    let b : Kripke = structure_of c.in_ok-second.second in
     let q : ℕ = f.questions in
-    let o : Partition = c.in-ok-parts.parts in
-    let p : Partition = c.ask-all.new.self in
-    let one = c.in-ok-parts.ensures in
-    let ask = c.ask-all.ensures.asked in
-    let few = c.ask-all.ensures.few in
-    let level : s.questions ≡ f.questions = c.in-ok-second.ensures.questions ∙ sym c.in-ok-first.ensures.questions in
-    let law : Lawful q b = subst (λ (n : ℕ). Lawful n b) level (table_lawful s) in (
-      ask.keeps.states ∙ one.states_is ∙ c.states.ensures.value,
-      (
-        ask.keeps.questions ∙ one.questions_is,
-        (
-          few,
-          (
-            exact_told (both a b) p (ask.exact (one.exact (test (both a b)) (test_boolean (both a b)))),
-            (
-              ask.shallow 0 one.shallow,
-              (
-                opening_numbered q a b (table_lawful f) law c.states.result o p c.states.ensures.value one ask,
-                (
-                  refl,
-                  (omega (arith, few), tt),
-                ),
-              ),
-            ),
-          ),
-        ),
-      ),
-    )
+    let o : Partition = c.in_ok-parts.parts in
+    let p : Partition = c.ask_all.new.self in
+    let one = c.in_ok-parts.ensures in
+    let ask = c.ask_all.ensures.asked in
+    let few = c.ask_all.ensures.few in
+    let level : s.questions ≡ f.questions = c.in_ok-second.ensures.questions ∙ sym c.in_ok-first.ensures.questions in
+    let law : Lawful q b = subst (λ (n : ℕ). Lawful n b) level (table_lawful s) in
+    record {
+      long = ask.keeps.states ∙ one.states_is ∙ c.states.ensures.value;
+      asks = ask.keeps.questions ∙ one.questions_is;
+      few = few;
+      told = exact_told (both a b) p (ask.exact (one.exact (test (both a b)) (test_boolean (both a b))));
+      shallow = ask.shallow 0 one.shallow;
+      numbered = opening_numbered q a b (table_lawful f) law c.states.result o p c.states.ensures.value one ask;
+      last = refl;
+      pace = omega (arith, few);
+    }
