@@ -1,7 +1,7 @@
 ghost use Rattle.std.specs.Prelude.{◌≡◌, ◌<◌, MatchOption};
 ghost use Rattle.labels.specs.Bands.{shows};
 ghost use Rattle.labels.specs.Kinds.{bands, readings};
-ghost use Rattle.std.proofs.Common.{rules, arith};
+ghost use Rattle.std.proofs.Common.{rules};
 
 use crate::coded::Coded;
 use kripke::label::Label;
@@ -70,11 +70,11 @@ impl Label for Reading {
 
     ghost answers = { λ x. bands x.level x.fault x.pre_alarm x.alarm };
 
-    ghost some = { first_of (Prim.search rules, Prim.grind (arith, Self.row.coded.inj)) };
+    ghost some = { Prim.search rules };
 
-    ghost few = { first_of (Prim.search rules, Prim.grind (arith, Self.row.coded.inj)) };
+    ghost few = { Prim.search rules };
 
-    ghost answered = { first_of (Prim.search rules, Prim.grind (arith, Self.row.coded.inj)) };
+    ghost answered = { Prim.search rules };
 
     fn questions() -> usize {
         QUESTIONS
