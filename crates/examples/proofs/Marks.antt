@@ -1,15 +1,15 @@
 -- Where the sweeps were enough, the marks tell where the formula holds.
-use Rattle.std.proofs.Common.{◌≡◌, ℕ, zero, suc, ◌<◌, ◌≤◌, Bool, true, false, not, ◌&&◌, ◌||◌, T, ◌⊎◌, refl, inl, inr, ⊎_elim, arith, T_not}
-use Rattle.std.proofs.lemmas.Bool.{or_cases, or_left, or_right, and_parts, and_from, le-ltb}
+use Rattle.std.proofs.Common.{ℕ, zero, suc, Bool, true, false, not, ◌&&◌, ◌||◌, T, refl, ⊎_elim, T_not}
+use Rattle.std.proofs.lemmas.Bool.{or_cases, or_left, and_parts, and_from, le-ltb}
 use Rattle.kripke.specs.Structure.{Kripke, Lawful, size, successors}
 use Rattle.kripke.specs.Ctl.{Formula, truth, question, and, or, EX, AX, EF, AF, EG, AG, EU, AU, Until, Always}
 use Rattle.kripke.proofs.Reflect.{T_true, and_T, or_T, below-T}
 use Rattle.evaluator.specs.Rows.{Tells}
-use Rattle.evaluator.specs.Marks.{Marked, Trim, Whole, Divides, Sound, Still, steps}
-use Rattle.evaluator.proofs.Untils.{at_once, one_more}
+use Rattle.evaluator.specs.Marks.{Marked, Trim, Whole, Divides, Still, steps}
+use Rattle.evaluator.proofs.Untils.{one_more}
 use Rattle.evaluator.proofs.Sweeps.{Grown, sown, reaped}
 use Rattle.evaluator.proofs.Nexts.{next_divides}
-use Rattle.evaluator.proofs.Turns.{always-divides, turned_trim}
+use Rattle.evaluator.proofs.Turns.{always-divides}
 use Rattle.evaluator.proofs.Meanings.{is_true, is_question, is-not, is_and, is_or, is_ex, is_ax, is-ef, is-af, is_eg, is_ag, is_eu, is_au}
 use Rattle.examples.proofs.Tests.{whole, turned, grown, until, still, marks, enough}
 

@@ -1,13 +1,13 @@
 -- Each test is right: where it passes, the statement holds.
-use Rattle.std.proofs.Common.{◌≡◌, ℕ, zero, suc, ◌*◌, ◌<◌, ◌≤◌, Bool, true, false, not, ◌&&◌, ◌||◌, T, eqb, ltb, leb, ◌⊎◌, ◌↔◌, List, [], ◌∷◌, length, get_or, sym, refl, subst, inl, inr, ⊎_elim, arith, T_not}
+use Rattle.std.proofs.Common.{◌≡◌, ℕ, zero, suc, ◌<◌, ◌≤◌, Bool, true, false, not, ◌&&◌, T, eqb, ltb, leb, ◌↔◌, List, length, get_or, sym, refl, subst, inl, inr, ⊎_elim, T_not}
 use mathlib.Core.Bool.{beq}
 use lib.Dec.{not_T}
 use Rattle.std.proofs.lemmas.Bool.{leb-true, ltb-true, eqb-true}
-use Rattle.kripke.specs.Structure.{Kripke, Lawful, Member, size, state, successors}
+use Rattle.kripke.specs.Structure.{Kripke, Lawful, size, state, successors}
 use Rattle.kripke.specs.Ctl.{Formula, Holds}
 use Rattle.kripke.specs.Nodes.{Operator, constant, asking, unary, binary, operator, operators, blank, Ordered, LawfulNode, WellFormed}
-use Rattle.kripke.specs.Rounds.{Same, ClosedDifferent, ClosedAlike, ClosedAfter, FirstClosed}
-use Rattle.kripke.specs.Tests.{every, below, same, settled}
+use Rattle.kripke.specs.Rounds.{ClosedDifferent, ClosedAlike, ClosedAfter, FirstClosed}
+use Rattle.kripke.specs.Tests.{every, below, settled}
 use Rattle.kripke.specs.declared.node.Node.{Node}
 use Rattle.kripke.proofs.Reflect.{T_true, and_T, or_T, every-T, below-T, same-T, settled-T}
 use Rattle.kripke.proofs.Closing.{alike_agree, different_separated}

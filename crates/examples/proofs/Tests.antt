@@ -1,5 +1,5 @@
 -- The statements of the table as tests that compute.
-use Rattle.std.proofs.Common.{ℕ, zero, suc, ◌*◌, Bool, true, false, not, ◌&&◌, ◌||◌, eqb, ltb, leb, List, [], ◌∷◌, length, get_or}
+use Rattle.std.proofs.Common.{ℕ, zero, suc, Bool, true, false, not, ◌&&◌, ◌||◌, eqb, ltb, leb, List, [], ◌∷◌, length, get_or}
 use mathlib.Core.Bool.{beq}
 use Rattle.kripke.specs.Structure.{Kripke, size, state, successors, answer}
 use Rattle.kripke.specs.Ctl.{Formula, truth, question, and, or, EX, AX, EF, AF, EG, AG, EU, AU}

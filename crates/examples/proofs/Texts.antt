@@ -1,5 +1,5 @@
 -- The tests of texts are right.
-use Rattle.std.proofs.Common.{◌≡◌, ℕ, zero, suc, ◌<◌, ◌≤◌, Bool, true, false, ◌&&◌, T, ltb, leb, List, [], ◌∷◌, ◌++◌, length, get_or, take, drop, sym, refl, ap, ◌∙◌, subst, arith}
+use Rattle.std.proofs.Common.{◌≡◌, ℕ, zero, suc, ◌<◌, ◌≤◌, ◌&&◌, T, ltb, leb, List, [], ◌∷◌, ◌++◌, length, take, drop, sym, refl, ap, ◌∙◌, subst, arith}
 use Rattle.std.proofs.lemmas.List.{take-append-drop}
 use Rattle.std.proofs.lemmas.Bool.{leb-true, ltb-true}
 use Rattle.kripke.specs.Ctl.{Formula}
@@ -9,8 +9,8 @@ use Rattle.kripke.specs.declared.node.Node.{Node}
 use Rattle.kripke.specs.declared.refusal.Cause.TheVariants.{TooDeep}
 use Rattle.kripke.specs.declared.refusal.Layer.TheVariants as layer
 use Rattle.kripke.proofs.Reflect.{T_true, and_T}
-use Rattle.reader.specs.Tokens.{Stream, done, next, tokens, first, offset, rest, kinds, After}
-use Rattle.reader.specs.Grammar.{Mark, mark, marks, toks, whole, Sentence, Asked, All, Within}
+use Rattle.reader.specs.Tokens.{Stream, done, next, tokens, first, offset, kinds, After}
+use Rattle.reader.specs.Grammar.{Mark, mark, marks, toks, whole, Asked, All, Within}
 use Rattle.reader.specs.Table.{table}
 use Rattle.reader.specs.Breaches.{Limited, Breach, Sooner}
 use Rattle.reader.specs.Phrases as why
