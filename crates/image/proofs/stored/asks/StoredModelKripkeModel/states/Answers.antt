@@ -1,6 +1,6 @@
 use Rattle.std.proofs.Common.{vec_items, sym, ◌∙◌, arith}
 use Rattle.image.specs.Rows.{size_is}
-use Rattle.image.proofs.stored.asks.StoredModelModel.states.Goals as goal
+use Rattle.image.proofs.stored.asks.StoredModelKripkeModel.states.Goals as goal
 
 pub returns : goal.returns
 returns g c =
