@@ -1,15 +1,15 @@
 -- Rows that are filled in one by one, and the model that they describe at the end.
-use Rattle.std.proofs.Common.{◌≡◌, ℕ, ◌+◌, ◌<◌, ◌≤◌, Bool, List, [], ◌∷◌, ◌++◌, map, length, get_or, vec_items, sym, refl, ap, ◌∙◌, subst, arith, below_more}
+use Rattle.std.proofs.Common.{◌≡◌, ℕ, ◌+◌, ◌<◌, ◌≤◌, Bool, List, [], ◌∷◌, ◌++◌, map, length, get_or, sym, refl, subst, arith, below_more}
 use Rattle.std.proofs.lemmas.List.{length_push, get_or_append_left, get_or_push, get_or_default, map_push, length-map}
-use Rattle.kripke.specs.Structure.{Kripke, State, Member, Closed, Lawful, blank, size, state, successors}
-use Rattle.image.specs.Checks.{Shown, Filled, Sound, Ends}
-use Rattle.image.specs.Image.{states, initial, first, Chain, Link}
+use Rattle.kripke.specs.Structure.{Kripke, State, blank, state}
+use Rattle.image.specs.Checks.{Shown, Filled, Sound}
+use Rattle.image.specs.Image.{states, first, Chain}
 use Rattle.labels.specs.Kinds.{Coding}
-use Rattle.image.specs.Loading.{Describes, GoodLink}
+use Rattle.image.specs.Loading.{Describes}
 use Rattle.image.specs.Stored.{row_state, rows_mean, nexts, Onward, Narrow, Inside}
 use Rattle.image.specs.declared.check.Header.{Header}
 use Rattle.image.specs.declared.stored.Row.{Row}
-use Rattle.image.specs.Rows.{size_is, next_is}
+use Rattle.image.specs.Rows.{next_is}
 use Rattle.image.proofs.Walks.{not_empty, at_most, targets}
 
 pub filled_none : (c : Coding) (img : List ℕ) → Filled c img 0 []

@@ -1,5 +1,5 @@
 -- The first breach of an image, for each way that the check can end.
-use Rattle.std.proofs.Common.{◌≡◌, ℕ, ◌+◌, ◌-◌, ◌*◌, ◌<◌, ◌≤◌, List, length, sym, refl, subst, arith}
+use Rattle.std.proofs.Common.{◌≡◌, ℕ, ◌<◌, ◌≤◌, List, length, sym, refl, subst, arith}
 use Rattle.kripke.proofs.Orders.{lower, same_lower}
 use Rattle.kripke.specs.Refusals.{Before, First, Clean}
 use Rattle.kripke.specs.declared.refusal.Cause.{Cause}
@@ -53,8 +53,8 @@ module _ (c : Coding) (img : List ℕ) where
         refute d q b (chain s h) = let l = lower b in omega arith
 
     module _ (long : 8 ≤ length img) (fields : (p : ℕ) → BadField c img p → ⊥) where
-      pub first-sized : (p : ℕ) → p ≡ whole img → (length img ≡ whole img → ⊥) → First (Breach c img) layer record { cause = ImageLength; layer = layer; place = p }
-      first-sized p e bad = record { broken = subst (λ (x : ℕ). Breach c img ImageLength x) (sym e) (sized bad); least = refute; layered = refl }
+      pub first_sized : (p : ℕ) → p ≡ whole img → (length img ≡ whole img → ⊥) → First (Breach c img) layer record { cause = ImageLength; layer = layer; place = p }
+      first_sized p e bad = record { broken = subst (λ (x : ℕ). Breach c img ImageLength x) (sym e) (sized bad); least = refute; layered = refl }
         where
           refute : (d : Cause) (q : ℕ) → Before d q ImageLength p → Breach c img d q → ⊥
           refute d q b (short h) = omega arith
@@ -65,9 +65,9 @@ module _ (c : Coding) (img : List ℕ) where
           refute d q b (chain s h) = let l = lower b in omega arith
 
       module _ (full : length img ≡ whole img) where
-        pub first-state : (s : ℕ) → s < states img → (GoodState c img s → ⊥) → ((t : ℕ) → t < s → GoodState c img t)
+        pub first_state : (s : ℕ) → s < states img → (GoodState c img s → ⊥) → ((t : ℕ) → t < s → GoodState c img t)
             → First (Breach c img) layer record { cause = StateRecord; layer = layer; place = state_at s }
-        first-state s n bad before = record { broken = entry n bad; least = refute; layered = refl }
+        first_state s n bad before = record { broken = entry n bad; least = refute; layered = refl }
           where
             refute : (d : Cause) (q : ℕ) → Before d q StateRecord (state_at s) → Breach c img d q → ⊥
             refute d q b (short h) = omega arith
@@ -78,9 +78,9 @@ module _ (c : Coding) (img : List ℕ) where
             refute d q b (chain i h) = let l = lower b in omega arith
 
         module _ (good : (s : ℕ) → s < states img → GoodState c img s) where
-          pub first-link : (k : ℕ) → Link img k → (GoodLink img k → ⊥) → ((i : ℕ) → 1 ≤ i → i < k → GoodLink img i)
+          pub first_link : (k : ℕ) → Link img k → (GoodLink img k → ⊥) → ((i : ℕ) → 1 ≤ i → i < k → GoodLink img i)
               → First (Breach c img) layer record { cause = LinkRecord; layer = layer; place = link_at img k }
-          first-link k n bad before = record { broken = link n bad; least = refute; layered = refl }
+          first_link k n bad before = record { broken = link n bad; least = refute; layered = refl }
             where
               refute : (d : Cause) (q : ℕ) → Before d q LinkRecord (link_at img k) → Breach c img d q → ⊥
               refute d q b (short h) = omega arith
@@ -91,9 +91,9 @@ module _ (c : Coding) (img : List ℕ) where
               refute d q b (chain i h) = let l = lower b in omega arith
 
           module _ (linked : (k : ℕ) → Link img k → GoodLink img k) where
-            pub first-chain : (s : ℕ) → s < states img → Walk img (first img s) 17 → ((t : ℕ) → t < s → Walk img (first img t) 17 → ⊥)
+            pub first_chain : (s : ℕ) → s < states img → Walk img (first img s) 17 → ((t : ℕ) → t < s → Walk img (first img t) 17 → ⊥)
                 → First (Breach c img) layer record { cause = LongChain; layer = layer; place = state_at s }
-            first-chain s n bad before = record { broken = chain n bad; least = refute; layered = refl }
+            first_chain s n bad before = record { broken = chain n bad; least = refute; layered = refl }
               where
                 refute : (d : Cause) (q : ℕ) → Before d q LongChain (state_at s) → Breach c img d q → ⊥
                 refute d q b (short h) = omega arith

@@ -1,17 +1,17 @@
 -- The format determines the model and the refusal.
-use Rattle.std.proofs.Common.{◌≡◌, ℕ, ◌<◌, ◌≤◌, Bool, List, [], ◌∷◌, length, get_or, Some, None, Ok, Err, Option, Result, unwrap_or, sym, refl, ap, ◌∙◌, subst, arith}
+use Rattle.std.proofs.Common.{◌≡◌, ℕ, Bool, List, ◌∷◌, Some, Ok, Err, Result, unwrap_or, sym, refl, ap, ◌∙◌, arith}
 use Rattle.std.proofs.lemmas.List.{ext_get_or, get_or_default}
 use Rattle.kripke.proofs.Orders.{one_refusal}
-use Rattle.kripke.specs.Structure.{Kripke, State, blank, size, state, successors}
+use Rattle.kripke.specs.Structure.{Kripke, State, blank, state}
 use Rattle.kripke.specs.Refusals.{First, JudgedInMemory}
 use Rattle.kripke.specs.declared.refusal.Error.{Error}
 use Rattle.kripke.specs.declared.refusal.Error.TheVariants.{Refused, Memory}
 use Rattle.kripke.specs.declared.refusal.Layer.{Layer}
 use Rattle.kripke.specs.declared.refusal.Refusal.{Refusal}
 use Rattle.labels.specs.Kinds.{Coding}
-use Rattle.image.specs.Image.{states, links, first, target, after, Link, Chain, end, more}
+use Rattle.image.specs.Image.{first, target, Chain, end, more}
 use Rattle.image.specs.Loading.{Breach, Describes, Gives}
-use Rattle.image.specs.Theorems.{One-model, One-refusal}
+use Rattle.image.specs.Theorems.{OneModel, OneRefusal}
 
 -- a chain has one list of targets
 one_chain : {img : List ℕ} {l : ℕ} {ts us : List ℕ} → Chain img l ts → Chain img l us → ts ≡ us
@@ -23,8 +23,8 @@ one_chain {img} (more {l = l} k c) (more j d) = ap (λ ts. target img l ∷ ts) 
 same_some : (x y : List Bool) → Some x ≡ Some y → x ≡ y
 same_some x y e = ap (λ o. unwrap_or o x) e
 
-pub one-model : (c : Coding) (img : List ℕ) (k l : Kripke) → Describes c img k → Describes c img l → k ≡ l
-one-model c img k l d e =
+pub one_model : (c : Coding) (img : List ℕ) (k l : Kripke) → Describes c img k → Describes c img l → k ≡ l
+one_model c img k l d e =
     let n = d.counted in
     let m = e.counted in
     let same : k.states ≡ l.states =
@@ -47,8 +47,8 @@ one_given c img layer Good Same (Ok x) (clean, good) e first = clean e.cause e.p
 one_given c img layer Good Same (Err (Refused f)) (told, same) e first = one_refusal (Breach c img) layer e f first told
 one_given c img layer Good Same (Err Memory) (clean, same) e first = clean e.cause e.place first.broken
 
-pub models_one : One-model
-models_one = one-model
+pub models_one : OneModel
+models_one = one_model
 
-pub refusals_one : One-refusal
+pub refusals_one : OneRefusal
 refusals_one c img layer = (one_refusal (Breach c img) layer, λ clean e first. clean e.cause e.place first.broken)

@@ -1,8 +1,8 @@
 -- A walk along a chain: what has been collected, and the link that comes next.
-use Rattle.std.proofs.Common.{◌≡◌, ℕ, zero, suc, ◌+◌, ◌-◌, ◌*◌, ◌<◌, ◌≤◌, Bool, true, false, List, [], ◌∷◌, ◌++◌, length, get_or, MatchBool, sym, refl, subst, inl, inr, zero-add, add-one, arith}
+use Rattle.std.proofs.Common.{◌≡◌, ℕ, suc, ◌+◌, ◌<◌, ◌≤◌, Bool, true, false, List, [], ◌∷◌, ◌++◌, length, MatchBool, sym, refl, subst, inl, inr, zero-add, arith}
 use Rattle.std.proofs.lemmas.List.{append-nil, append_assoc, length_push}
 use Rattle.kripke.specs.Structure.{Member}
-use Rattle.image.specs.Image.{states, links, first, target, after, Link, Chain, end, more, Walk, here, on}
+use Rattle.image.specs.Image.{states, links, target, after, Link, Chain, end, more, Walk, here, on}
 use Rattle.image.specs.Checks.{Ends}
 use Rattle.image.specs.Loading.{GoodLink}
 

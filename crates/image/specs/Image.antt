@@ -1,5 +1,5 @@
 -- The stored image, by its bytes. Every number has its low byte first; a byte past the end reads as 0.
-use Rattle.std.specs.Prelude.{ℕ, suc, ◌+◌, ◌-◌, ◌*◌, ◌≤◌, List, [], ◌∷◌, length, slice_index}
+use Rattle.std.specs.Prelude.{ℕ, suc, ◌+◌, ◌-◌, ◌*◌, ◌≤◌, List, [], ◌∷◌, slice_index}
 
 abbrev pub byte_at : List ℕ → ℕ → ℕ
 byte_at img i = slice_index img i

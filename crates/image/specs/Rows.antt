@@ -1,9 +1,9 @@
 -- Rows, and the structure that they mean.
-use Rattle.std.specs.Prelude.{◌≡◌, ℕ, ◌<◌, ◌≤◌, Bool, List, [], ◌∷◌, map, length, get_or, vec_items, slice_index_or, refl}
+use Rattle.std.specs.Prelude.{◌≡◌, ℕ, ◌<◌, ◌≤◌, Bool, List, [], ◌∷◌, map, length, get_or, vec_items, slice_index_or}
 use Rattle.std.proofs.Common.{sym, ap, subst, ◌∙◌, ⊎_elim, arith}
 use Rattle.std.proofs.lemmas.List.{get_or-map, get_or_past, get_or_default, length-map}
 use Rattle.std.proofs.lemmas.Bool.{cases_lt}
-use Rattle.kripke.specs.Structure.{Kripke, State, Member, Closed, Lawful, or_first, blank, size, state, successors}
+use Rattle.kripke.specs.Structure.{Kripke, Member, Lawful, or_first, blank, size, state, successors}
 use Rattle.image.specs.Stored.{nexts, Onward, Narrow, Inside, row_state, rows_mean}
 use Rattle.image.specs.declared.stored.Row.{Row}
 
@@ -76,7 +76,7 @@ module _ {L : Type 0} (answers : L → List Bool) (q : ℕ) (counted : (l : L) �
         some = omega arith;
         few = omega arith;
         begins = omega arith;
-        answered = λ s h. all-answered rows some s;
+        answered = λ s h. all_answered rows some s;
         closed = record {
           onward = λ s h. subst (λ (l : List ℕ). 1 ≤ length l) (sym (next s h)) (onward s (omega arith));
           inside = λ s t h m. subst (λ (l : ℕ). t < l) (sym n) (inside s t (omega arith) (subst (λ (l : List ℕ). Member t l) (next s h) m));
@@ -84,10 +84,10 @@ module _ {L : Type 0} (answers : L → List Bool) (q : ℕ) (counted : (l : L) �
         narrow = λ s h. subst (λ (l : List ℕ). length l ≤ 16) (sym (next s h)) (narrow s (omega arith));
       }
     where
-      all-answered : (rs : List (Row L)) → 1 ≤ length rs → (s : ℕ) → length (state (rows_mean answers rs start) s).answers ≡ q
-      all-answered [] none s = absurd (empty none)
+      all_answered : (rs : List (Row L)) → 1 ≤ length rs → (s : ℕ) → length (state (rows_mean answers rs start) s).answers ≡ q
+      all_answered [] none s = absurd (empty none)
         where
           empty : 1 ≤ 0 → ⊥
           empty h = omega arith
-      all-answered (r ∷ rs) some s =
+      all_answered (r ∷ rs) some s =
           ap (λ x. length x.answers) (or_first-map (row_state answers) (r ∷ rs) s r blank some) ∙ counted (or_first (r ∷ rs) s r).label

@@ -1,5 +1,5 @@
 -- The rows of a stored model, and what they must keep to.
-use Rattle.std.specs.Prelude.{ℕ, ◌<◌, ◌≤◌, Bool, List, [], ◌∷◌, map, length, vec_items, slice_index_or}
+use Rattle.std.specs.Prelude.{ℕ, ◌<◌, ◌≤◌, Bool, List, [], map, length, vec_items, slice_index_or}
 use Rattle.kripke.specs.Structure.{Kripke, State, Member}
 use Rattle.image.specs.declared.stored.Row.{Row}
 

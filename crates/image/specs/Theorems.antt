@@ -8,12 +8,12 @@ use Rattle.labels.specs.Kinds.{Coding}
 use Rattle.image.specs.Loading.{Breach, Describes}
 
 -- An image describes at most one model.
-abbrev pub One-model : Type 0
-One-model = (c : Coding) (img : List ℕ) (k l : Kripke) → Describes c img k → Describes c img l → k ≡ l
+abbrev pub OneModel : Type 0
+OneModel = (c : Coding) (img : List ℕ) (k l : Kripke) → Describes c img k → Describes c img l → k ≡ l
 
 -- An image that breaks a rule has one first refusal, and one that breaks none has none: so it is loaded, or refused, and always alike.
-abbrev pub One-refusal : Type 0
-One-refusal =
+abbrev pub OneRefusal : Type 0
+OneRefusal =
     (c : Coding) (img : List ℕ) (layer : Layer) →
     ((e f : Refusal) → First (Breach c img) layer e → First (Breach c img) layer f
     → (number_of e.cause ≡ number_of f.cause) × (e.layer ≡ f.layer) × (e.place ≡ f.place))

@@ -1,5 +1,5 @@
 -- Which breach of a list of rules is told first, and when there is none.
-use Rattle.std.proofs.Common.{◌≡◌, ℕ, ◌<◌, ◌≤◌, List, length, get_or, refl, ⊎_elim, arith}
+use Rattle.std.proofs.Common.{ℕ, ◌<◌, List, length, get_or, refl, ⊎_elim, arith}
 use Rattle.kripke.specs.Refusals.{Before, Clean, First}
 use Rattle.kripke.specs.declared.refusal.Cause.{Cause}
 use Rattle.kripke.specs.declared.refusal.Cause.TheVariants.{RuleLimits, UnlawfulRule}

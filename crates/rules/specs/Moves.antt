@@ -1,6 +1,6 @@
 -- Where rules lead: how many ways there are, that they stay within the bits, and the loops over the rules.
-use Rattle.std.specs.Prelude.{◌≡◌, ℕ, zero, suc, ◌+◌, ◌-◌, ◌^◌, ◌<◌, ◌≤◌, Bool, true, false, cond, ◌⊎◌, List, [], ◌∷◌, length, get_or, take, drop, Some, None, Option, ◌≢◌, bit_and, slice_index_or, refl}
-use Rattle.std.proofs.Common.{sym, ap, subst, ◌∙◌, inl, inr, ⊎_elim, arith}
+use Rattle.std.specs.Prelude.{◌≡◌, ℕ, zero, suc, ◌+◌, ◌-◌, ◌^◌, ◌<◌, ◌≤◌, Bool, true, false, cond, ◌⊎◌, List, [], ◌∷◌, length, get_or, take, drop, Some, None, ◌≢◌, bit_and, slice_index_or, refl}
+use Rattle.std.proofs.Common.{ap, subst, ◌∙◌, inl, inr, ⊎_elim, arith}
 use Rattle.std.proofs.lemmas.Nat.{and_le_l, or_lt}
 use Rattle.std.proofs.lemmas.List.{at_drop_more, at_drop_all, get_or-take, length-take-le}
 use Rattle.std.proofs.lemmas.Bool.{cases_Bool}
@@ -65,10 +65,10 @@ pub all_ways : (ts : List ℕ) (s : ℕ) → (length ts ≢ 0) → length (or_it
 all_ways [] s e = absurd (e refl)
 all_ways (t ∷ ts) s e = refl
 
-nth-get : (ts : List ℕ) (i t d : ℕ) → nth ts i ≡ Some t → slice_index_or ts i d ≡ t
-nth-get [] i t d e = absurd (let z : ◌≡◌ {A = ℕ} 0 1 = cc in omega arith)
-nth-get (x ∷ ts) zero t d e = cc
-nth-get (x ∷ ts) (suc i) t d e = nth-get ts i t d e
+nth_some : (ts : List ℕ) (i t d : ℕ) → nth ts i ≡ Some t → slice_index_or ts i d ≡ t
+nth_some [] i t d e = absurd (let z : ◌≡◌ {A = ℕ} 0 1 = cc in omega arith)
+nth_some (x ∷ ts) zero t d e = cc
+nth_some (x ∷ ts) (suc i) t d e = nth_some ts i t d e
 
 nth_none : (ts : List ℕ) (i d : ℕ) → nth ts i ≡ None → slice_index_or ts i d ≡ d
 nth_none [] i d e = refl
@@ -77,7 +77,7 @@ nth_none (x ∷ ts) (suc i) d e = nth_none ts i d e
 
 pub way_found : (ts : List ℕ) (s i t : ℕ) → nth ts i ≡ Some t → or_first (or_itself ts s) i 0 ≡ t
 way_found [] s i t e = absurd (let z : ◌≡◌ {A = ℕ} 0 1 = cc in omega arith)
-way_found (x ∷ ts) s i t e = nth-get (x ∷ ts) i t x e
+way_found (x ∷ ts) s i t e = nth_some (x ∷ ts) i t x e
 
 pub way_past : (ts : List ℕ) (s i t : ℕ) → nth ts i ≡ None → nth ts 0 ≡ Some t → or_first (or_itself ts s) i 0 ≡ t
 way_past [] s i t e f = absurd (let z : ◌≡◌ {A = ℕ} 0 1 = cc in omega arith)

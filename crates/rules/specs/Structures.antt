@@ -1,13 +1,11 @@
 -- The structure that rules stand for is lawful, and its states by number.
-use Rattle.std.specs.Prelude.{◌≡◌, ℕ, ◌+◌, ◌^◌, ◌<◌, ◌≤◌, cond, List, map, length, get_or, take, nat_lt, slice_index_or, refl}
+use Rattle.std.specs.Prelude.{◌≡◌, ℕ, ◌^◌, ◌<◌, ◌≤◌, cond, List, length, get_or, take, nat_lt, slice_index_or}
 use Rattle.std.proofs.Common.{sym, ap, subst, ◌∙◌, ⊎_elim, arith, pow_mono}
-use Rattle.std.specs.List.{range_with_len}
 use Rattle.std.proofs.lemmas.Nat.{pow_pos}
 use Rattle.std.proofs.lemmas.List.FromFn.{length-map-range_with_len, get_or-map-range_with_len}
 use Rattle.std.proofs.lemmas.List.{get_or_default, get_or_past, get_or-take, length-take-le, same_lists}
 use Rattle.std.proofs.lemmas.Bool.{cases_lt, lt-ltb, le-ltb}
-use Rattle.kripke.specs.Structure.{Kripke, State, Lawful, Member, blank, size, state, successors}
-use Rattle.labels.specs.Kinds.{bits}
+use Rattle.kripke.specs.Structure.{State, Lawful, Member, blank, size, state, successors}
 use Rattle.labels.specs.Words.{length-bits}
 use Rattle.rules.specs.Rules.{moves, or_itself, ruled, structure}
 use Rattle.rules.specs.Limits as limits

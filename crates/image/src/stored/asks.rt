@@ -6,9 +6,9 @@ ghost use Rattle.image.specs.Rows;
 
 use super::{Row, StoredModel};
 use kripke::label::Label;
-use kripke::model::Model;
+use kripke::model::Model as KripkeModel;
 
-pub impl<L: Label> Model for StoredModel<L> as StoredModelModel {
+impl<L: Label> KripkeModel for StoredModel<L> {
     type Label = L;
 
     ghost meaning = { λ m. meaning_of L.Label.answers m };

@@ -7,7 +7,7 @@ ghost use Rattle.rules.specs.Structures;
 ghost use Rattle.rules.specs.Structures.{held_inside};
 
 use super::RuleModel;
-use kripke::model::Model;
+use kripke::model::Model as KripkeModel;
 use labels::signal::SignalWord;
 
 impl RuleModel {
@@ -36,7 +36,7 @@ impl RuleModel {
     }
 }
 
-pub impl Model for RuleModel as RuleModelModel {
+impl KripkeModel for RuleModel {
     type Label = SignalWord;
 
     ghost meaning = { meaning_of };

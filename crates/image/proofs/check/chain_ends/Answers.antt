@@ -1,15 +1,15 @@
-use Rattle.std.proofs.Common.{◌≡◌, ◌≤◌, true, false, eqb, List, [], ◌∷◌, ◌++◌, length, sym, refl, ◌∙◌, subst, arith, eqb-true}
+use Rattle.std.proofs.Common.{◌≡◌, ◌≤◌, eqb, [], ◌∷◌, ◌++◌, length, refl, arith, eqb-true}
 use borrow.Author.Tests.{eqb-false}
 use Rattle.std.proofs.lemmas.List.{length_push}
 use Rattle.image.specs.Image.{target}
-use Rattle.image.proofs.Walks.{Collected, starts, goes_on, arrives, too_long, when_from}
+use Rattle.image.proofs.Walks.{starts, goes_on, arrives, too_long, when_from}
 use Rattle.image.proofs.check.chain_ends.Goals as goal
 
 pub loop-i-init : goal.loop-i-init
 loop-i-init c = ([], refl, starts c.requires.within.1)
 
-pub link-after-link-requires : goal.link-after-link-requires
-link-after-link-requires c = let d = c.loop-i.invariant.2 in record { read = c.requires.read; within = (omega arith, d.within) }
+pub link_after-link-requires : goal.link_after-link-requires
+link_after-link-requires c = let d = c.loop-i.invariant.2 in record { read = c.requires.read; within = (omega arith, d.within) }
 
 pub loop-i-preserved : goal.loop-i-preserved
 loop-i-preserved c =
@@ -18,7 +18,7 @@ loop-i-preserved c =
     let lo : 1 ≤ c.loop-i.link = omega arith in (
       c.loop-i.invariant.0 ++ target c.args.image.now c.loop-i.link ∷ [],
       omega (arith, length_push c.loop-i.invariant.0 (target c.args.image.now c.loop-i.link), c.loop-i.invariant.1),
-      goes_on d lo (c.requires.linked c.loop-i.link lo (omega arith)) c.link-after-link.ensures,
+      goes_on d lo (c.requires.linked c.loop-i.link lo (omega arith)) c.link_after-link.ensures,
     )
 
 pub returns-then-link-eq0 : goal.returns-then-link-eq0

@@ -1,6 +1,6 @@
 use Rattle.std.proofs.Common.{sym, ◌∙◌, arith, lit≤}
 use Rattle.image.specs.Loading.{kind, gap, state_count, link_count, begins}
-use Rattle.image.proofs.Firsts.{first_short, first_field, first-sized, fields_before, no_field}
+use Rattle.image.proofs.Firsts.{first_short, first_field, first_sized, fields_before, no_field}
 use Rattle.image.proofs.check.check_header.Goals as goal
 
 pub returns-then-len-lt8 : goal.returns-then-len-lt8
@@ -32,7 +32,7 @@ returns-then-initial-states g c =
 pub returns-then-len-whole : goal.returns-then-len-whole
 returns-then-len-whole g c =
     let none = no_field g.L.Coded.coding c.args.image.now (c.if-image-kind.false ∙ c.kind.ensures) c.if-image-ne0.false (omega arith, omega arith) (omega arith, omega arith) (omega arith) in
-    first-sized _ _ _ (omega arith) none _ (omega arith) (λ h. omega arith)
+    first_sized _ _ _ (omega arith) none _ (omega arith) (λ h. omega arith)
 
 pub returns : goal.returns
 returns g c =

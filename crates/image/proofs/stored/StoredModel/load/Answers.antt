@@ -1,14 +1,14 @@
 use Rattle.std.proofs.Common.{◌≡◌}
 use Rattle.image.specs.Held.{meaning_of}
 use Rattle.image.specs.Loading.{Describes}
-use Rattle.image.proofs.Unique.{one-model, one_given}
+use Rattle.image.proofs.Unique.{one_model, one_given}
 use Rattle.image.proofs.stored.StoredModel.load.Goals as goal
 
 pub returns : goal.returns
 returns g c = record {
   judged = c.take.ensures;
-  one-model = one-model g.L.Coded.coding c.args.image.now;
+  one_model = one_model g.L.Coded.coding c.args.image.now;
   one_refusal = one_given g.L.Coded.coding c.args.image.now _
-      (λ (_ : Unit {0}). Describes g.L.Coded.coding c.args.image.now (meaning_of g.row.L-Label.answers c.take.new.self))
+      (λ (_ : Unit {0}). Describes g.L.Coded.coding c.args.image.now (meaning_of g.L.Label.answers c.take.new.self))
       (c.take.new.self ≡ c.args.self.now) c.take.result c.take.ensures;
 }

@@ -1,4 +1,4 @@
-use Rattle.std.proofs.Common.{◌≡◌, ◌≤◌, length, vec_items, arith}
+use Rattle.std.proofs.Common.{◌≡◌, vec_items, arith}
 use Rattle.kripke.specs.Structure.{or_first}
 use Rattle.image.specs.Rows.{row_state_lem, row_onward, found_within, found_past}
 use Rattle.image.proofs.stored.StoredModel.row.Goals as goal
@@ -16,6 +16,6 @@ returns g c =
     ] in
     let onward = row_onward rows c.args.s x m.some found m.onward in
     record {
-      meant = row_state_lem g.row.L-Label.answers rows m.initial c.args.s x m.some found;
+      meant = row_state_lem g.L.Label.answers rows m.initial c.args.s x m.some found;
       onward = omega (arith, onward, x.next.ok.0);
     }

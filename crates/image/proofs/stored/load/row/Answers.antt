@@ -7,7 +7,7 @@ pub successors-requires : goal.successors-requires
 successors-requires g c =
     let sound = c.requires.sound in
     let read = sound.headed.read in
-    let e = sym c.first-link.ensures in
+    let e = sym c.first_link.ensures in
     record {
       read = read;
       linked = sound.linked;

@@ -1,4 +1,4 @@
-use Rattle.std.proofs.Common.{◌≡◌, ◌+◌, ◌≤◌, List, [], ◌∷◌, ◌++◌, vec_items, sym, refl, ap, ◌∙◌, subst, arith}
+use Rattle.std.proofs.Common.{◌≤◌, [], ◌∷◌, ◌++◌, vec_items, sym, ap, ◌∙◌, subst, arith}
 use Rattle.image.specs.Image.{Chain}
 use Rattle.image.proofs.Walks.{Collected, goes_on, arrives, steps}
 use Rattle.image.proofs.stored.load.successors.Goals as goal
@@ -10,9 +10,9 @@ loop-link-preserved c =
     let w = d.within in
     let lo : 1 ≤ c.loop-link.link = omega arith in
     let st = steps r.1 lo in
-    let e = c.in-ok-push.ensures.items ∙ ap (λ x. vec_items c.loop-link.next ++ x ∷ []) c.link-target.ensures in (
-      subst (λ l. Collected c.args.image.now c.args.first l c.link-after-link.result) (sym e) (goes_on d lo (c.requires.linked c.loop-link.link lo (omega arith)) c.link-after-link.ensures),
-      (st.0, subst (λ k. Chain c.args.image.now k st.0) (sym c.link-after-link.ensures) st.2, omega (arith, st.1, r.2, c.in-ok-push.ensures.len)),
+    let e = c.in_ok-push.ensures.items ∙ ap (λ x. vec_items c.loop-link.next ++ x ∷ []) c.link_target.ensures in (
+      subst (λ l. Collected c.args.image.now c.args.first l c.link_after-link.result) (sym e) (goes_on d lo (c.requires.linked c.loop-link.link lo (omega arith)) c.link_after-link.ensures),
+      (st.0, subst (λ k. Chain c.args.image.now k st.0) (sym c.link_after-link.ensures) st.2, omega (arith, st.1, r.2, c.in_ok-push.ensures.len)),
     )
 
 pub returns : goal.returns

@@ -1,5 +1,5 @@
 -- What is collected begins the chain, and what is left of it fits in 16.
-use Rattle.std.proofs.Common.{◌≡◌, ℕ, ◌+◌, ◌-◌, ◌≤◌, List, length, vec_items, vec_len}
+use Rattle.std.proofs.Common.{ℕ, ◌+◌, ◌-◌, ◌≤◌, List, length, vec_items, vec_len}
 use Rattle.image.specs.Image.{Chain}
 use Rattle.image.proofs.Walks.{Collected}
 use Rattle.image.proofs.stored.load.successors.Given as goal

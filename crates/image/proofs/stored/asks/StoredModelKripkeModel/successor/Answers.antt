@@ -1,8 +1,8 @@
 use Rattle.std.proofs.Common.{◌≤◌, length, vec_items, sym, ap, ◌∙◌, arith}
 use Rattle.kripke.specs.Structure.{or_first}
 use Rattle.image.specs.Rows.{found_within, found_past}
-use Rattle.image.proofs.stored.asks.StoredModelModel.successor.Goals as goal
-use Rattle.image.proofs.stored.asks.StoredModelModel.successor.Goals.{then-i-len, else-i-len}
+use Rattle.image.proofs.stored.asks.StoredModelKripkeModel.successor.Goals as goal
+use Rattle.image.proofs.stored.asks.StoredModelKripkeModel.successor.Goals.{then-i-len, else-i-len}
 
 pub returns : goal.returns
 returns g c =

@@ -5,11 +5,11 @@ use Rattle.rules.specs.Rules.{moves}
 use Rattle.rules.specs.declared.model.RuleModel.{RuleModel}
 use Rattle.rules.specs.Moves.{count_on, count_off, moves_end, moves_few, no_ways, all_ways}
 use Rattle.rules.specs.Structures.{next_is}
-use Rattle.rules.proofs.model.asks.RuleModelModel.degree.Goals as goal
-use Rattle.rules.proofs.model.asks.RuleModelModel.degree.Goals.{then-applies, else-applies}
+use Rattle.rules.proofs.model.asks.RuleModelKripkeModel.degree.Goals as goal
+use Rattle.rules.proofs.model.asks.RuleModelKripkeModel.degree.Goals.{then-applies, else-applies}
 
-pub overflow-add-count : goal.overflow-add-count
-overflow-add-count c =
+pub overflow_add-count : goal.overflow_add-count
+overflow_add-count c =
     let m : RuleModel = c.args.self.now in
     omega (arith, c.loop-j.invariant, moves_few (held m) c.seat-s.result, length-take-le m.count m.rules m.room, m.counted)
 

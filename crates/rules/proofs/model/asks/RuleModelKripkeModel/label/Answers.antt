@@ -3,7 +3,7 @@ use Rattle.kripke.specs.Structure.{State}
 use Rattle.labels.specs.Kinds.{bits}
 use Rattle.rules.specs.Held.{held}
 use Rattle.rules.specs.Structures.{state_is}
-use Rattle.rules.proofs.model.asks.RuleModelModel.label.Goals as goal
+use Rattle.rules.proofs.model.asks.RuleModelKripkeModel.label.Goals as goal
 
 pub returns : goal.returns
 returns c =
