@@ -9,14 +9,14 @@ mod tests {
     use compare::verdict::Outcome;
     use evaluator::evaluate;
     use image::slot::Slot;
-    use image::stored::{StoredModel, StoredModelModel};
+    use image::stored::StoredModel;
     use kripke::label::Label;
     use kripke::model::Model;
     use kripke::node::Node;
     use kripke::refusal::{Error, Refusal};
     use labels::reading::Reading;
     use labels::signal::SignalWord;
-    use rules::model::{RuleModel, RuleModelModel};
+    use rules::model::RuleModel;
     use rules::rule::Rule;
     use std::alloc::{AllocError, Global};
     use std::process::Abort;

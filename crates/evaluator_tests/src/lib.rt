@@ -6,11 +6,11 @@
 mod tests {
     use evaluator::evaluate;
     use image::slot::Slot;
-    use image::stored::{StoredModel, StoredModelModel};
+    use image::stored::StoredModel;
     use kripke::model::Model;
     use kripke::node::Node;
     use labels::signal::SignalWord;
-    use rules::model::{RuleModel, RuleModelModel};
+    use rules::model::RuleModel;
     use rules::rule::Rule;
     use std::alloc::{AllocError, Global};
     use std::process::Abort;

@@ -1,11 +1,11 @@
 -- The input cut in two, and the kind of the pair.
-use Rattle.std.proofs.Common.{◌≡◌, ℕ, ◌-◌, ◌<◌, ◌≤◌, min, Bool, true, false, cond, eqb, List, length, take, drop, Result, Vec, sym, ap, ◌∙◌, subst, ⊎_elim, arith}
+use Rattle.std.proofs.Common.{◌≡◌, ℕ, ◌-◌, min, Bool, true, false, cond, eqb, List, length, take, drop, Result, Vec, sym, ap, ◌∙◌, subst, ⊎_elim, arith}
 use Rattle.std.proofs.lemmas.List.{take_all, drop_all, length-drop}
 use Rattle.std.proofs.lemmas.Bool.{cases_lt, eq-eqb, ne_eqb}
 use Rattle.std.specs.declared.alloc.Global.{Global}
 use Rattle.kripke.specs.declared.refusal.Error.{Error}
-use Rattle.labels.specs.Kinds.{Coding, words, readings}
-use Rattle.image.specs.Image.{kind_of, whole}
+use Rattle.labels.specs.Kinds.{words, readings}
+use Rattle.image.specs.Image.{kind_of}
 use Rattle.pair_job.specs.Job.{Compared, coding, questions, first_image, second_image}
 
 pub cut_first : (w cut : ℕ) (input : List ℕ) → cut ≡ min w (length input) → take cut input ≡ take w input

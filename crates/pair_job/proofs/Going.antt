@@ -1,5 +1,5 @@
 -- Rounds from the opening on, until one is refused.
-use Rattle.std.proofs.Common.{◌≡◌, ℕ, suc, ◌+◌, ◌-◌, ◌<◌, ◌≤◌, sym, refl, ◌∙◌, subst, ⊎_elim, arith}
+use Rattle.std.proofs.Common.{◌≡◌, ℕ, ◌-◌, ◌<◌, ◌≤◌, sym, refl, ◌∙◌, subst, ⊎_elim, arith}
 use Rattle.std.proofs.lemmas.Bool.{cases_lt}
 use Rattle.kripke.specs.Structure.{Kripke}
 use Rattle.kripke.specs.Refusals.{Clean, First}
@@ -8,7 +8,7 @@ use Rattle.kripke.specs.declared.refusal.Cause.{Cause}
 use Rattle.kripke.specs.declared.refusal.Layer.TheVariants as layer
 use Rattle.kripke.specs.declared.refusal.Refusal.{Refusal}
 use Rattle.compare.specs.Breaches.{RoundBreach, closed}
-use Rattle.compare.specs.Calls.{Same, Rounded, first, second, questions, rounds}
+use Rattle.compare.specs.Calls.{Same, Rounded, first, second, rounds}
 use Rattle.compare.specs.declared.comparison.Comparison.{Comparison}
 
 -- What holds of two structures holds of equal ones.

@@ -1,14 +1,13 @@
 -- The text of a report of two lawful models, which is never refused.
-use Rattle.std.proofs.Common.{◌≡◌, ℕ, ◌+◌, ◌*◌, ◌<◌, ◌≤◌, List, length, Ok, Err, vec_items, Result, Vec, sym, ◌∙◌, subst, inl, inr, ⊎_elim, arith}
+use Rattle.std.proofs.Common.{◌≡◌, ℕ, ◌≤◌, List, length, Ok, Err, vec_items, Result, Vec, sym, ◌∙◌, subst, inl, inr, arith}
 use Rattle.std.specs.declared.alloc.Global.{Global}
 use Rattle.kripke.specs.Structure.{Kripke, Lawful}
-use Rattle.kripke.specs.Rounds.{Apart, ClosedDifferent, ClosedAfter, FirstClosed, total}
-use Rattle.kripke.specs.Refusals.{First, JudgedInMemory}
+use Rattle.kripke.specs.Rounds.{Apart, ClosedDifferent, ClosedAfter, total}
+use Rattle.kripke.specs.Refusals.{JudgedInMemory}
 use Rattle.kripke.specs.declared.refusal.Cause.{Cause}
 use Rattle.kripke.specs.declared.refusal.Error.{Error}
 use Rattle.kripke.specs.declared.refusal.Error.TheVariants.{Refused, Memory}
 use Rattle.kripke.specs.declared.refusal.Layer.TheVariants as layer
-use Rattle.kripke.specs.declared.refusal.Refusal.{Refusal}
 use Rattle.kripke.proofs.Closing.{alike_agree}
 use Rattle.compare.specs.Breaches.{VerdictBreach, unclosed, FormulaBreach, no_difference, few}
 use Rattle.report.specs.Text.{Breach, size, node_count, report_text}

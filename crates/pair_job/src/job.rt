@@ -5,7 +5,7 @@ ghost use Rattle.pair_job.specs.Job.{Compared, Tells, Told, coding, first_image,
 use crate::closing::report_models;
 use crate::images::{first_length, kind};
 use image::slot::Slot;
-use image::stored::{StoredModel, StoredModelModel};
+use image::stored::StoredModel;
 use kripke::label::Label;
 use kripke::refusal::{Error, Refusal};
 use labels::coded::Coded;

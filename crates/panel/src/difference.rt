@@ -7,7 +7,7 @@ use compare::comparison::Comparison;
 use compare::verdict::Outcome;
 use evaluator::evaluate;
 use image::slot::Slot;
-use image::stored::{StoredModel, StoredModelModel};
+use image::stored::StoredModel;
 use kripke::label::Label;
 use kripke::model::Model;
 use kripke::node::Node;

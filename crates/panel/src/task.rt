@@ -2,13 +2,13 @@
 use crate::failure::Failure;
 use crate::{condition, listing, words};
 use image::slot::Slot;
-use image::stored::{StoredModel, StoredModelModel};
+use image::stored::StoredModel;
 use kripke::model::Model;
 use kripke::refusal::Error;
 use labels::coded::Coded;
 use labels::reading::Reading;
 use labels::signal::SignalWord;
-use rules::model::{RuleModel, RuleModelModel};
+use rules::model::RuleModel;
 use rules::rule::Rule;
 use std::alloc::{AllocError, Global};
 

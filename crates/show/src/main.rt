@@ -2,7 +2,7 @@
 #![tactic(auto)]
 
 use image::slot::Slot;
-use image::stored::{StoredModel, StoredModelModel};
+use image::stored::StoredModel;
 use kripke::label::Label;
 use kripke::model::Model;
 use kripke::refusal::Error;

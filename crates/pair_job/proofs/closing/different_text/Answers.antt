@@ -6,4 +6,4 @@ use Rattle.pair_job.proofs.closing.different_text.Goals as goal
 
 pub returns : goal.returns
 returns c =
-    spelt (Different c.args.rounds c.args.nodes) (differ_text c.args.rounds c.args.nodes.now) refl c.requires c.report-text.result c.report-text.ensures
+    spelt (Different c.args.rounds c.args.nodes) (differ_text c.args.rounds c.args.nodes.now) refl c.requires c.report_text.result c.report_text.ensures

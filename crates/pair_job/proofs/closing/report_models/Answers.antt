@@ -1,7 +1,7 @@
 use Rattle.std.proofs.Common.{◌≡◌, ℕ, sym, ◌∙◌, subst}
 use Rattle.kripke.specs.Structure.{Kripke, Lawful}
 use Rattle.kripke.specs.Rounds.{FirstClosed}
-use Rattle.compare.specs.Calls.{first, second, questions, rounds}
+use Rattle.compare.specs.Calls.{rounds}
 use Rattle.pair_job.proofs.Going.{of_equal}
 use Rattle.pair_job.proofs.closing.report_models.Goals as goal
 
@@ -10,7 +10,7 @@ lawful q p a b e f x = subst (λ (z : ℕ). Lawful z b) (sym e) (subst (λ (z : 
 
 pub tell-requires : goal.tell-requires
 tell-requires g c =
-    let o = c.in-ok-comparison.ensures in
+    let o = c.in_ok-comparison.ensures in
     let s = c.close.ensures.same in
     let q = s.questions_is ∙ o.questions_is in
     record {

@@ -6,37 +6,37 @@ use Rattle.pair_job.specs.Reports.{alike, different}
 use Rattle.pair_job.proofs.Reporting.{told, has_verdict, has_formula, small}
 use Rattle.pair_job.proofs.closing.tell.Goals as goal
 
-pub returns-in-err-verdict : goal.returns-in-err-verdict
-returns-in-err-verdict c = absurd (has_verdict c.requires.closed.0 c.in-err-verdict.ensures.0.broken)
+pub returns-in_err-verdict : goal.returns-in_err-verdict
+returns-in_err-verdict c = absurd (has_verdict c.requires.closed.0 c.in_err-verdict.ensures.0.broken)
 
-pub returns-in-err-count : goal.returns-in-err-count
-returns-in-err-count c =
+pub returns-in_err-count-in-Different : goal.returns-in_err-count-in-Different
+returns-in_err-count-in-Different c =
     let o = c.args.comparison.now in
-    let apart = c.in-ok-verdict.ensures.1.different.0 c.in-Different.is in
-    absurd (has_formula (questions o) (first o) (second o) c.requires.first c.requires.second (rounds o) refl c.requires.closed.0 apart c.in-err-count.ensures.0.broken)
+    let apart = c.in_ok-verdict.ensures.1.different.0 c.in-Different.is in
+    absurd (has_formula (questions o) (first o) (second o) c.requires.first c.requires.second (rounds o) refl c.requires.closed.0 apart c.in_err-count-in-Different.ensures.0.broken)
 
 pub returns-in-Alike : goal.returns-in-Alike
 returns-in-Alike c =
     let o = c.args.comparison.now in
-    let decides = c.in-ok-verdict.ensures.1 in
+    let decides = c.in_ok-verdict.ensures.1 in
     told (questions o) (first o) (second o) (alike_text (rounds o)) _ (alike (rounds o) decides.soon c.requires.closed (decides.alike.0 c.in-Alike.is))
-    (ap alike_text decides.rounds) c.alike-text.result c.alike-text.ensures
+    (ap alike_text decides.rounds) c.alike_text.result c.alike_text.ensures
 
 -- The first n nodes, as a part from 0 on.
 front : (n : ℕ) (ns ms : List Node) → take n ns ≡ ms → take (n - 0) ns ≡ ms
 front n ns ms e = let z : n - 0 ≡ n = omega arith in ap (λ (i : ℕ). take i ns) z ∙ e
 
-pub different-text-requires : goal.different-text-requires
-different-text-requires c =
+pub different_text-requires : goal.different_text-requires
+different_text-requires c =
     let o = c.args.comparison.now in
-    let w = c.in-ok-count.ensures.1 in
-    let n = ap (λ l. length l) (front c.in-ok-count.count _ _ w.front) in
+    let w = c.in_ok-count-in-Different.ensures.1 in
+    let n = ap (λ l. length l) (front c.in_ok-count-in-Different.count _ _ w.front) in
     omega (arith, n, w.separating.few, small (questions o) (first o) (second o) c.requires.first c.requires.second (rounds o))
 
-pub returns-in-ok-count : goal.returns-in-ok-count
-returns-in-ok-count c =
+pub returns-in_ok-count-in-Different : goal.returns-in_ok-count-in-Different
+returns-in_ok-count-in-Different c =
     let o = c.args.comparison.now in
-    let decides = c.in-ok-verdict.ensures.1 in
-    let w = c.in-ok-count.ensures.1 in
+    let decides = c.in_ok-verdict.ensures.1 in
+    let w = c.in_ok-count-in-Different.ensures.1 in
     told (questions o) (first o) (second o) (differ_text (rounds o) (table o)) _ (different (rounds o) (table o) decides.soon c.requires.closed w.separating)
-    (ap₂ differ_text decides.rounds (front c.in-ok-count.count _ _ w.front)) c.different-text.result c.different-text.ensures
+    (ap₂ differ_text decides.rounds (front c.in_ok-count-in-Different.count _ _ w.front)) c.different_text.result c.different_text.ensures

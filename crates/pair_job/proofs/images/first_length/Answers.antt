@@ -4,4 +4,4 @@ use Rattle.pair_job.proofs.images.first_length.Goals as goal
 
 pub returns-in-len8-up : goal.returns-in-len8-up
 unfolding number_at
-returns-in-len8-up c = omega (arith, c.min.ensures, c.asked.ensures, c.from-le-bytes-states.ensures, c.from-le-bytes-links.ensures)
+returns-in-len8-up c = omega (arith, c.min.ensures, c.asked.ensures, c.from_le_bytes-states.ensures, c.from_le_bytes-links.ensures)

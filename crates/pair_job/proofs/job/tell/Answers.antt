@@ -1,4 +1,4 @@
-use Rattle.std.proofs.Common.{◌≡◌, ℕ, List, IfOk, Ok, Err, vec_items, Result, Vec, sym, subst}
+use Rattle.std.proofs.Common.{ℕ, List, IfOk, Ok, Err, vec_items, Result, Vec, sym, subst}
 use Rattle.std.specs.declared.alloc.AllocError.{AllocError}
 use Rattle.std.specs.declared.alloc.Global.{Global}
 use Rattle.kripke.specs.declared.refusal.Error.{Error}
@@ -19,4 +19,4 @@ returns-in-Ok c = λ k q first second x. reported (subst (Compared k q first sec
 
 pub returns-in-Err : goal.returns-in-Err
 returns-in-Err c = λ k q first second x.
-    told k q first second c.in-Err.error (subst (Compared k q first second) c.in-Err.is x) c.error-line.result c.error-line.ensures
+    told k q first second c.in-Err.error (subst (Compared k q first second) c.in-Err.is x) c.error_line.result c.error_line.ensures
