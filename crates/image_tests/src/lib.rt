@@ -5,7 +5,7 @@
 #[cfg(test)]
 mod tests {
     use image::slot::Slot;
-    use image::stored::{StoredModel, StoredModelModel};
+    use image::stored::StoredModel;
     use kripke::label::Label;
     use kripke::model::Model;
     use kripke::refusal::Error;

@@ -1,8 +1,9 @@
 // Reads one image from standard input and prints the model that it describes, or why it is refused.
+
 #![tactic(auto)]
 
 use image::slot::Slot;
-use image::stored::{StoredModel, StoredModelModel};
+use image::stored::StoredModel;
 use kripke::label::Label;
 use kripke::model::Model;
 use kripke::refusal::Error;
