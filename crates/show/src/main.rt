@@ -1,4 +1,5 @@
 // Reads one image from standard input and prints the model that it describes, or why it is refused.
+
 #![tactic(auto)]
 
 use image::slot::Slot;
