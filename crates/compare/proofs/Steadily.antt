@@ -1,7 +1,7 @@
 -- A comparison that is closed stays as it is, so that its formula is always the same.
 use Rattle.std.proofs.Common.{◌≡◌, ℕ, ◌⊎◌, List, [], ◌∷◌, ◌++◌, sym, refl, ◌∙◌, subst, inl, inr, ⊎_elim}
 use Rattle.std.proofs.ByRecursion.{All-push}
-use Rattle.std.specs.List.{AllByRecursion as All}
+use Rattle.std.specs.List.{AllByRecursion}
 use Rattle.kripke.specs.Refusals.{Clean}
 use Rattle.kripke.specs.Rounds.{ClosedAfter}
 use Rattle.kripke.specs.declared.node.Node.{Node}
@@ -17,7 +17,7 @@ Closed c = ClosedAfter (first c) (second c) (rounds c)
 
 pub kept_none : (c : Comparison) (ss : List Answer) → ss ≡ [] → Kept c ss c
 kept_none c ss e =
-    let none : (ns : List Node) → All (Tells ns) ss = λ ns. subst (λ (xs : List Answer). All (Tells ns) xs) (sym e) tt in
+    let none : (ns : List Node) → AllByRecursion (Tells ns) ss = λ ns. subst (λ (xs : List Answer). AllByRecursion (Tells ns) xs) (sym e) tt in
     record { steady = record { still = λ h. refl; tells = none (table c) }; formed = inl none }
 
 -- one answer more
@@ -29,18 +29,18 @@ kept_more c d e ss then s old new is =
       formed = ⊎_elim unclosed shut old.formed;
     }
   where
-    same : Closed d → All (Tells (table e)) ss
-    same h = subst (λ (x : Comparison). All (Tells (table x)) ss) (sym (new.steady.still h)) old.steady.tells
+    same : Closed d → AllByRecursion (Tells (table e)) ss
+    same h = subst (λ (x : Comparison). AllByRecursion (Tells (table x)) ss) (sym (new.steady.still h)) old.steady.tells
 
     held : Closed c → e ≡ c
     held h =
         let d-is = old.steady.still h in
         new.steady.still (subst (λ (x : Comparison). Closed x) (sym d-is) h) ∙ d-is
 
-    shut : Closed d → ((ns : List Node) → All (Tells ns) (ss ++ s ∷ [])) ⊎ Closed e
+    shut : Closed d → ((ns : List Node) → AllByRecursion (Tells ns) (ss ++ s ∷ [])) ⊎ Closed e
     shut h = inr (subst (λ (x : Comparison). Closed x) (sym (new.steady.still h)) h)
 
-    unclosed : ((ns : List Node) → All (Tells ns) ss) → ((ns : List Node) → All (Tells ns) (ss ++ s ∷ [])) ⊎ Closed e
+    unclosed : ((ns : List Node) → AllByRecursion (Tells ns) ss) → ((ns : List Node) → AllByRecursion (Tells ns) (ss ++ s ∷ [])) ⊎ Closed e
     unclosed none = ⊎_elim (λ one. inl (λ ns. All-push (Tells ns) ss s (none ns) (one ns).0)) (λ h. inr h) new.formed
 
 -- an answer that is no formula, from a comparison that stays

@@ -1,6 +1,6 @@
 -- The law of a comparison over any list of requests.
 use Rattle.std.specs.Prelude.{◌≡◌, ℕ, suc, ◌≤◌, ◌⊎◌, List, [], ◌∷◌, ◌++◌, vec_items, Vec}
-use Rattle.std.specs.List.{AllByRecursion as All}
+use Rattle.std.specs.List.{AllByRecursion}
 use Rattle.std.specs.declared.alloc.Global.{Global}
 use Rattle.kripke.specs.Structure.{Kripke}
 use Rattle.kripke.specs.Rounds.{total, ClosedAfter}
@@ -53,9 +53,9 @@ Tells ns (answer.Failed e) = Unit {0}
 -- A closed comparison c stays as it is; and every formula among the answers is the one that d, the comparison then, still keeps: asked again, it is the same.
 pub record Steady (c : Compared) (ss : List Answer) (d : Compared) : Type 0 where
   pub still : ClosedAfter (first c) (second c) (rounds c) → d ≡ c
-  pub tells : All (Tells (table d)) ss
+  pub tells : AllByRecursion (Tells (table d)) ss
 
 -- The same of one answer or more, with what a loop over them needs besides: no formula was told yet, or the comparison is closed.
 pub record Kept (c : Compared) (ss : List Answer) (d : Compared) : Type 0 where
   pub steady : Steady c ss d
-  pub formed : ((ns : List Node) → All (Tells ns) ss) ⊎ ClosedAfter (first d) (second d) (rounds d)
+  pub formed : ((ns : List Node) → AllByRecursion (Tells ns) ss) ⊎ ClosedAfter (first d) (second d) (rounds d)

@@ -1,5 +1,5 @@
 -- The parts of a node in a table: the nodes that it reaches.
-use Rattle.std.specs.Prelude.{◌≡◌, ℕ, ◌≤◌, Bool, true, false, cond, List, get_or, ◌==◌, slice_index_or}
+use Rattle.std.specs.Prelude.{◌≡◌, ℕ, ◌≤◌, Bool, true, false, cond, List, ◌==◌, slice_index_or}
 use Rattle.kripke.specs.Nodes.{blank}
 use Rattle.kripke.specs.declared.node.Node.{Node}
 
@@ -13,16 +13,16 @@ usesB n = n.code == 3
 -- Node i is a part of node r: it is r, or named by a part of r.
 pub data Reach (ns : List Node) (r : ℕ) : ℕ → Type 0 where
   here : Reach ns r r
-  by_a : {j : ℕ} → Reach ns r j → usesA (slice_index_or ns j blank) ≡ true → Reach ns r (get_or ns j blank).a
-  by_b : {j : ℕ} → Reach ns r j → usesB (slice_index_or ns j blank) ≡ true → Reach ns r (get_or ns j blank).b
+  by_a : {j : ℕ} → Reach ns r j → usesA (slice_index_or ns j blank) ≡ true → Reach ns r (slice_index_or ns j blank).a
+  by_b : {j : ℕ} → Reach ns r j → usesB (slice_index_or ns j blank) ≡ true → Reach ns r (slice_index_or ns j blank).b
 
 -- What node i names is marked.
 pub record Refs (ns : List Node) (ks : List Bool) (i : ℕ) : Type 0 where
-  pub first : usesA (slice_index_or ns i blank) ≡ true → slice_index_or ks (get_or ns i blank).a false ≡ true
-  pub second : usesB (slice_index_or ns i blank) ≡ true → slice_index_or ks (get_or ns i blank).b false ≡ true
+  pub first : usesA (slice_index_or ns i blank) ≡ true → slice_index_or ks (slice_index_or ns i blank).a false ≡ true
+  pub second : usesB (slice_index_or ns i blank) ≡ true → slice_index_or ks (slice_index_or ns i blank).b false ≡ true
 
 -- The marked nodes are parts of the root, which is one of them, and those from i on have had what they name marked.
 pub record Marking (ns : List Node) (root i : ℕ) (ks : List Bool) : Type 0 where
-  pub top : get_or ks root false ≡ true
+  pub top : slice_index_or ks root false ≡ true
   pub closed : (j : ℕ) → i ≤ j → slice_index_or ks j false ≡ true → Refs ns ks j
   pub sound : (j : ℕ) → slice_index_or ks j false ≡ true → Reach ns root j

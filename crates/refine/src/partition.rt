@@ -1,4 +1,4 @@
-ghost use Rattle.std.specs.Prelude.{◌≡◌, ℕ, ◌≤◌, vec_capacity};
+ghost use Rattle.std.specs.Prelude.{◌≡◌, ◌≤◌, vec_capacity};
 ghost use Rattle.kripke.specs.Classes.{Led, Low};
 ghost use Rattle.refine.specs.Classes.{Here, leaders};
 ghost use Rattle.refine.specs.Growth.{Orderly};

@@ -1,12 +1,12 @@
-ghost use Rattle.std.specs.Prelude.{◌≡◌, ◌<◌, ◌≤◌, length, IfOk};
-ghost use Rattle.kripke.specs.Structure.{size, state, successors};
+ghost use Rattle.std.specs.Prelude.{◌≡◌, IfOk};
+ghost use Rattle.kripke.specs.Structure.{state, successors};
 ghost use Rattle.refine.specs.Rows.{state_of, structure};
 
 use crate::row::Row;
 use crate::table::Table;
 use kripke::label::Label;
 use kripke::model::Model;
-use std::alloc::{AllocError, AllocFailed, Global};
+use std::alloc::{AllocError, Global};
 
 // The answers of a label, question by question.
 fn answers<L: Label>(heap: Global, label: &L) -> Result<Vec<bool>, AllocError>

@@ -1,4 +1,4 @@
-ghost use Rattle.std.specs.Prelude.{◌≡◌, ℕ, suc, ◌≤◌, if◌then◌else◌};
+ghost use Rattle.std.specs.Prelude.{◌≡◌, suc, ◌≤◌, if◌then◌else◌};
 ghost use Rattle.kripke.specs.Classes.{Numbered};
 ghost use Rattle.kripke.specs.Rounds.{total};
 ghost use Rattle.refine.specs.Pairs.{both_of, first_of, second_of};

@@ -1,9 +1,10 @@
-use Rattle.std.proofs.Common.{◌+◌, ◌*◌, ◌≤◌, sym, ◌∙◌, subst, arith}
+use Rattle.std.proofs.Common.{◌≡◌, ◌+◌, ◌*◌, ◌≤◌, false, sym, ◌∙◌, subst, arith}
 use Rattle.std.proofs.lemmas.Bool.{not-true, not-false}
 use Rattle.kripke.specs.Refusals.{First}
 use Rattle.kripke.specs.Rounds.{total}
 use Rattle.kripke.specs.declared.refusal.Refusal.{Refusal}
 use Rattle.kripke.specs.declared.refusal.Layer.TheVariants as layer
+use Rattle.compare.specs.Closing.{level}
 use Rattle.compare.specs.Breaches.{FormulaBreach}
 use Rattle.compare.specs.Calls.{first, second, rounds}
 use Rattle.compare.proofs.Rulings.{formula_refused, places_refused, formula_clean}
@@ -30,6 +31,6 @@ returns-then-places-enough c =
 pub returns : goal.returns
 returns c =
     let s = c.args.self.now in
-    let e = not-true _ (sym c.differs.ensures ∙ c.if-not-differs.false) in
+    let e : level (first s) (second s) (rounds s) ≡ false = not-true _ (sym c.differs.ensures ∙ c.if-not-differs.false) in
     let l : 4 * total (first s) (second s) ≤ c.args.places + 3 = omega (arith, c.if-places-enough.false, c.enough.ensures, s.stages.long) in
     (formula_clean (first s) (second s) (rounds s) c.args.places e l, record { separating = separating s e; fits = omega (arith, s.few, l) })

@@ -1,4 +1,4 @@
-use Rattle.std.proofs.Common.{ℕ, refl, arith}
+use Rattle.std.proofs.Common.{ℕ, suc, ◌+◌, ◌<◌, ◌≤◌, length, vec_items, refl, arith}
 use Rattle.refine.specs.declared.partition.Partition.{Partition}
 use Rattle.refine.proofs.Scan.{room_left}
 use Rattle.refine.proofs.Divide.{Started, start-scanned, start-few, divided}
@@ -25,11 +25,13 @@ scan-requires c =
     let x : ℕ = c.begin-x.result in
     let s : ℕ = c.first_odd-s.result in
     let o = c.first_odd-s.ensures.found c.if-s-self.true in
-    let st : Started p _ c.args.test x = record { states = refl; questions = refl; class = refl; node = refl; count = refl; begun = c.begin-x.ensures.begun } in
     let d = c.part.ensures in
+    let start : s + 1 ≤ c.part.new.self.states = omega (arith, d.keeps.states, c.if-s-self.true) in
+    let inside : suc x < length (vec_items c.part.new.self.nodes) = omega (arith, d.keeps.extends.longer, c.begin-x.ensures.begun.inside) in
+    let st : Started p _ c.args.test x = record { states = refl; questions = refl; class = refl; node = refl; count = refl; begun = c.begin-x.ensures.begun } in
     record {
-      start = omega (arith, d.keeps.states, c.if-s-self.true);
-      inside = omega (arith, d.keeps.extends.longer, c.begin-x.ensures.begun.inside);
+      start = start;
+      inside = inside;
       sorted = (start-scanned p _ c.args.test x st c.part.new.self s c.args.row.now o d).sorted;
       few = start-few p _ c.args.test x st c.part.new.self s c.args.row.now o d c.requires.few;
     }
