@@ -3,12 +3,12 @@ use Rattle.std.proofs.Common.{◌≡◌, ℕ, suc, ◌+◌, ◌-◌, ◌<◌, Bo
 use Rattle.std.proofs.lemmas.List.{get_or_append_left, get_or_push, length_push}
 use Rattle.kripke.specs.Nodes.{blank, made, formulas, formula}
 use Rattle.refine.specs.Growth.{next_node, Orderly}
-use Rattle.compare.specs.Reach.{usesA, usesB, Reach, here, by_a, by_b, Refs, Marking}
+use Rattle.compare.specs.Reach.{uses_a, uses_b, Reach, here, by_a, by_b, Refs, Marking}
 use Rattle.compare.specs.Pruned.{rename, Copied, Pruned}
 use Rattle.kripke.specs.declared.node.Node.{Node}
 use Rattle.kripke.proofs.Tables.{formula_keeps, formula_new}
 use Rattle.refine.proofs.Orders.{node_is, orderly_push}
-use Rattle.compare.proofs.Renames.{never, rename-made, names_a, names_b, rename_fits, rename-same}
+use Rattle.compare.proofs.Renames.{never, rename_made, names_a, names_b, rename_fits, rename_same}
 use Rattle.compare.proofs.Marks.{kept_reach, reach_low}
 
 pub copied_skip : (qs : ℕ) (ns : List Node) (ks : List Bool) (i : ℕ) (to : List ℕ) (ms : List Node) → get_or ks i false ≡ false → Copied qs ns ks i to ms → Copied qs ns ks (i + 1) to ms
@@ -45,10 +45,10 @@ module _ (qs : ℕ) (ns : List Node) (ks : List Bool) (i : ℕ) (to : List ℕ) 
   long : length ms' ≡ length ms + 1
   long = length_push ms new
 
-  a_low : usesA node ≡ true → node.a < i
+  a_low : uses_a node ≡ true → node.a < i
   a_low e = names_a qs i node (he i hi) e
 
-  b_low : usesB node ≡ true → node.b < i
+  b_low : uses_b node ≡ true → node.b < i
   b_low e = names_b qs i node (he i hi) e
 
   ordered_new : T (next_node qs (length ms) new)
@@ -56,7 +56,7 @@ module _ (qs : ℕ) (ns : List Node) (ks : List Bool) (i : ℕ) (to : List ℕ) 
 
   same_new : made (formulas ms) new ≡ formula ns i
   same_new =
-      rename-made to node (formulas ms) (formulas ns)
+      rename_made to node (formulas ms) (formulas ns)
       (λ e. c.same node.a (a_low e) (hr.first e))
       (λ e. c.same node.b (b_low e) (hr.second e)) qs i (he i hi)
       ∙ sym (node_is qs ns he i hi)
@@ -67,7 +67,7 @@ module _ (qs : ℕ) (ns : List Node) (ks : List Bool) (i : ℕ) (to : List ℕ) 
       (λ e. ap (λ (z : ℕ). formula ms' z) to_new ∙ formula_new ms new (length ms) refl ∙ same_new)
 
   renamed_at : (j : ℕ) → j < i + 1 → rename to (get_or ns j blank) ≡ rename to' (get_or ns j blank)
-  renamed_at j l = sym (rename-same to to' (get_or ns j blank)
+  renamed_at j l = sym (rename_same to to' (get_or ns j blank)
       (λ e. to_old (get_or ns j blank).a (omega (arith, names_a qs j (get_or ns j blank) (he j (omega arith)) e)))
       (λ e. to_old (get_or ns j blank).b (omega (arith, names_b qs j (get_or ns j blank) (he j (omega arith)) e))))
 
@@ -106,11 +106,11 @@ module _ (qs : ℕ) (ns : List Node) (root : ℕ) (ks : List Bool) (to : List �
   top_is : length ms - 1 ≡ get_or to root 0
   top_is = omega (arith, top)
 
-  a_is : (n p : Node) → p ≡ rename to n → usesA n ≡ true → (usesA p ≡ true) × (p.a ≡ get_or to n.a 0)
-  a_is n p d e = (ap usesA d ∙ e, ap (λ (z : Node). z.a) d ∙ ap (λ u. cond u (get_or to n.a 0) n.a) e)
+  a_is : (n p : Node) → p ≡ rename to n → uses_a n ≡ true → (uses_a p ≡ true) × (p.a ≡ get_or to n.a 0)
+  a_is n p d e = (ap uses_a d ∙ e, ap (λ (z : Node). z.a) d ∙ ap (λ u. cond u (get_or to n.a 0) n.a) e)
 
-  b_is : (n p : Node) → p ≡ rename to n → usesB n ≡ true → (usesB p ≡ true) × (p.b ≡ get_or to n.b 0)
-  b_is n p d e = (ap usesB d ∙ e, ap (λ (z : Node). z.b) d ∙ ap (λ u. cond u (get_or to n.b 0) n.b) e)
+  b_is : (n p : Node) → p ≡ rename to n → uses_b n ≡ true → (uses_b p ≡ true) × (p.b ≡ get_or to n.b 0)
+  b_is n p d e = (ap uses_b d ∙ e, ap (λ (z : Node). z.b) d ∙ ap (λ u. cond u (get_or to n.b 0) n.b) e)
 
   carried : {j : ℕ} → Reach ns root j → Reach ms (get_or to root 0) (get_or to j 0)
   carried here = here

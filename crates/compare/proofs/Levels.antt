@@ -36,20 +36,20 @@ module _ (r : Refinement) where
   abbrev other : ℕ
   other = length (vec_items r.pair.first.rows) + r.pair.second.initial
 
-  first-size : size (first r) ≡ length (vec_items r.pair.first.rows)
-  first-size = row_size r.pair.first.initial (vec_items r.pair.first.rows)
+  first_size : size (first r) ≡ length (vec_items r.pair.first.rows)
+  first_size = row_size r.pair.first.initial (vec_items r.pair.first.rows)
 
   pub one_in : one < r.parts.states
-  one_in = omega (arith, r.long, first-size, first_lawful.begins)
+  one_in = omega (arith, r.long, first_size, first_lawful.begins)
 
   pub other_in : other < r.parts.states
-  other_in = omega (arith, r.long, first-size, second_lawful.begins)
+  other_in = omega (arith, r.long, first_size, second_lawful.begins)
 
   pub level_is : eqb (class_of r.parts one) (class_of r.parts other) ≡ level (first r) (second r) r.rounds
   level_is =
       let a : Kripke = first r in
       let b : Kripke = second r in
-      let e : other ≡ size (first r) + r.pair.second.initial = omega (arith, first-size) in
+      let e : other ≡ size (first r) + r.pair.second.initial = omega (arith, first_size) in
       let c = cross_together (first r) (second r) r.rounds one r.pair.second.initial first_lawful.begins in
       (beq-T _ _).0 (r.numbered one other (omega (arith, one_in, r.long)) (omega (arith, other_in, r.long)))
       ∙ ap (λ (j : ℕ). together (first r) (second r) r.rounds one j) e
@@ -75,30 +75,30 @@ module _ (r : Refinement) where
 
   module _ (e : level (first r) (second r) r.rounds ≡ false) (ns : List Node)
       (h : Pruned (questions r) (vec_items r.parts.nodes) (get_or r.parts.node (class_of r.parts one) 0) ns) where
-    same-root : root ns ≡ class_formula r.parts one
-    same-root = h.same
+    same_root : root ns ≡ class_formula r.parts one
+    same_root = h.same
 
     test_at : (s : ℕ) → s < r.parts.states → test (both (first r) (second r)) (root ns) s ≡ eqb (class_of r.parts s) (class_of r.parts one)
-    test_at s l = ap (λ (f : Formula). test (both (first r) (second r)) f s) same-root ∙ told_exact (both (first r) (second r)) r.parts r.told one s one_in l
+    test_at s l = ap (λ (f : Formula). test (both (first r) (second r)) f s) same_root ∙ told_exact (both (first r) (second r)) r.parts r.told one s one_in l
 
     at_one : test (both (first r) (second r)) (root ns) one ≡ true
     at_one = test_at one one_in ∙ eq-eqb _ _ refl
 
     at_other : test (both (first r) (second r)) (root ns) (size (first r) + r.pair.second.initial) ≡ false
     at_other =
-        ap (λ (j : ℕ). test (both (first r) (second r)) (root ns) j) (omega (arith, first-size))
+        ap (λ (j : ℕ). test (both (first r) (second r)) (root ns) j) (omega (arith, first_size))
         ∙ test_at other other_in ∙ ne_eqb _ _ (λ z. eqb-false _ _ (level_is ∙ e) (sym z))
 
     yes-T : (b : Bool) → b ≡ true → T b
     yes-T b z = subst T (sym z) tt
 
-    pub kept-some : Kept r ns
-    kept-some = record {
+    pub kept_some : Kept r ns
+    kept_some = record {
       few = omega (arith, h.few, nodes_few, r.parts.here one one_in);
       orderly = h.orderly;
       useful = h.useful;
       telling = subst (λ b. T (b || tells (first r) (second r) r.rounds ns)) (sym e)
           (T_and _ _
-          (T_and _ _ (yes-T _ (lt-ltb 0 (length ns) h.some)) (yes-T _ (le-leb _ _ (subst (λ (f : Formula). nesting f ≤ r.rounds) (sym same-root) (r.shallow one one_in)))))
+          (T_and _ _ (yes-T _ (lt-ltb 0 (length ns) h.some)) (yes-T _ (le-leb _ _ (subst (λ (f : Formula). nesting f ≤ r.rounds) (sym same_root) (r.shallow one one_in)))))
           (T_and _ _ (yes-T _ at_one) (yes-T _ (ap not at_other))));
     }

@@ -4,7 +4,7 @@ use lib.ListN.{length-replicate}
 use native.Mathlib.Decide.{ℕ_discrete}
 use Rattle.kripke.specs.Nodes.{blank}
 use Rattle.refine.specs.Growth.{Orderly}
-use Rattle.compare.specs.Reach.{usesA, usesB, Reach, here, by_a, by_b, Refs, Marking}
+use Rattle.compare.specs.Reach.{uses_a, uses_b, Reach, here, by_a, by_b, Refs, Marking}
 use Rattle.kripke.specs.declared.node.Node.{Node}
 use Rattle.compare.proofs.Renames.{never, names_a, names_b}
 
@@ -43,19 +43,19 @@ marking_start ns root n h =
     let only : (j : ℕ) → get_or (set (replicate n false) root true) j false ≡ true → root ≡ j =
     λ j e. elim (set_only (replicate n false) root j e) [ inl k ↦ never (sym (blanks j) ∙ k) | inr k ↦ k ] in
     record {
-      top = get_or-set_same (replicate n false) root true false (omega (arith, length-of));
+      top = get_or-set_same (replicate n false) root true false (omega (arith, length_of));
       closed = λ j l e. absurd (omega (arith, only j e));
       sound = λ j e. subst (λ z. Reach ns root z) (only j e) here;
     } where
       blanks : (j : ℕ) → get_or (replicate n false) j false ≡ false
       blanks j = all_false n j
 
-      length-of : length (replicate n false) ≡ n
-      length-of = length-replicate n false
+      length_of : length (replicate n false) ≡ n
+      length_of = length-replicate n false
 
 -- What the node `i` names is marked.
 pub marking_more : (qs : ℕ) (ns : List Node) (root i i' : ℕ) (ks ls os : List Bool) → i' ≡ suc i → Orderly qs ns → i < length ns → get_or ks i false ≡ true
-    → Marks (usesA (get_or ns i blank)) (get_or ns i blank).a ks ls → Marks (usesB (get_or ns i blank)) (get_or ns i blank).b ls os
+    → Marks (uses_a (get_or ns i blank)) (get_or ns i blank).a ks ls → Marks (uses_b (get_or ns i blank)) (get_or ns i blank).b ls os
     → Marking ns root i' ks → Marking ns root i os
 marking_more qs ns root i i' ks ls os s he hi hk p q m = record {
   top = q.more root (p.more root m.top);
@@ -74,10 +74,10 @@ marking_more qs ns root i i' ks ls os s he hi hk p q m = record {
     ]
   ];
 } where
-  was : (j : ℕ) → get_or os j false ≡ true → (get_or ks j false ≡ true) ⊎ (((usesA (get_or ns i blank) ≡ true) × ((get_or ns i blank).a ≡ j)) ⊎ ((usesB (get_or ns i blank) ≡ true) × ((get_or ns i blank).b ≡ j)))
+  was : (j : ℕ) → get_or os j false ≡ true → (get_or ks j false ≡ true) ⊎ (((uses_a (get_or ns i blank) ≡ true) × ((get_or ns i blank).a ≡ j)) ⊎ ((uses_b (get_or ns i blank) ≡ true) × ((get_or ns i blank).b ≡ j)))
   was j e = elim (q.only j e) [ inl k ↦ elim (p.only j k) [ inl z ↦ inl z | inr w ↦ inr (inl w) ] | inr w ↦ inr (inr w) ]
 
-  lower : (j : ℕ) → (((usesA (get_or ns i blank) ≡ true) × ((get_or ns i blank).a ≡ j)) ⊎ ((usesB (get_or ns i blank) ≡ true) × ((get_or ns i blank).b ≡ j))) → j < i
+  lower : (j : ℕ) → (((uses_a (get_or ns i blank) ≡ true) × ((get_or ns i blank).a ≡ j)) ⊎ ((uses_b (get_or ns i blank) ≡ true) × ((get_or ns i blank).b ≡ j))) → j < i
   lower j k = elim k [ inl w ↦ omega (arith, names_a qs i (get_or ns i blank) (he i hi) w.0, w.1) | inr w ↦ omega (arith, names_b qs i (get_or ns i blank) (he i hi) w.0, w.1) ]
 
 -- At the end the marked nodes are those that the root reaches.

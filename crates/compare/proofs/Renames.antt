@@ -6,26 +6,26 @@ use Rattle.kripke.specs.Nodes.{made}
 use Rattle.kripke.specs.declared.node.Node.{Node}
 use Rattle.refine.specs.Growth.{next_node}
 use Rattle.refine.proofs.Orders.{Shape, always, asks, denies, joins, steps, shape, T_and, lt_T, made_at}
-use Rattle.compare.specs.Reach.{usesA, usesB}
+use Rattle.compare.specs.Reach.{uses_a, uses_b}
 use Rattle.compare.specs.Pruned.{rename}
 
 pub never : {A : Type 0} → false ≡ true → A
 never e = absurd (subst T (sym e) tt)
 
-a_of : (n : Node) (k : ℕ) → n.code ≡ k → usesA n ≡ cond (eqb k 0) false (cond (eqb k 1) false true)
+a_of : (n : Node) (k : ℕ) → n.code ≡ k → uses_a n ≡ cond (eqb k 0) false (cond (eqb k 1) false true)
 a_of n k e = ap (λ (c : ℕ). cond (eqb c 0) false (cond (eqb c 1) false true)) e
 
-b_of : (n : Node) (k : ℕ) → n.code ≡ k → usesB n ≡ eqb k 3
+b_of : (n : Node) (k : ℕ) → n.code ≡ k → uses_b n ≡ eqb k 3
 b_of n k e = ap (λ (c : ℕ). eqb c 3) e
 
-low_a : (q i : ℕ) (n : Node) → Shape q i n → usesA n ≡ true → n.a < i
+low_a : (q i : ℕ) (n : Node) → Shape q i n → uses_a n ≡ true → n.a < i
 low_a q i n (always c a b) e = never (sym (a_of n 0 c) ∙ e)
 low_a q i n (asks c a b) e = never (sym (a_of n 1 c) ∙ e)
 low_a q i n (denies c a b) e = a
 low_a q i n (joins c a b) e = a
 low_a q i n (steps c a b) e = a
 
-low_b : (q i : ℕ) (n : Node) → Shape q i n → usesB n ≡ true → n.b < i
+low_b : (q i : ℕ) (n : Node) → Shape q i n → uses_b n ≡ true → n.b < i
 low_b q i n (always c a b) e = never (sym (b_of n 0 c) ∙ e)
 low_b q i n (asks c a b) e = never (sym (b_of n 1 c) ∙ e)
 low_b q i n (denies c a b) e = never (sym (b_of n 2 c) ∙ e)
@@ -33,10 +33,10 @@ low_b q i n (joins c a b) e = b
 low_b q i n (steps c a b) e = never (sym (b_of n 5 c) ∙ e)
 
 -- What a node in order names is earlier.
-pub names_a : (q i : ℕ) (n : Node) → T (next_node q i n) → usesA n ≡ true → n.a < i
+pub names_a : (q i : ℕ) (n : Node) → T (next_node q i n) → uses_a n ≡ true → n.a < i
 names_a q i n h e = low_a q i n (shape q i n h) e
 
-pub names_b : (q i : ℕ) (n : Node) → T (next_node q i n) → usesB n ≡ true → n.b < i
+pub names_b : (q i : ℕ) (n : Node) → T (next_node q i n) → uses_b n ≡ true → n.b < i
 names_b q i n h e = low_b q i n (shape q i n h) e
 
 eq_T : (a b : ℕ) → a ≡ b → T (eqb a b)
@@ -52,19 +52,19 @@ fits q i a b c =
 
 -- A renumbered node is in order where the new numbers are lower than its own.
 module _ (to : List ℕ) (n : Node) where
-  a' : usesA n ≡ true → (rename to n).a ≡ get_or to n.a 0
+  a' : uses_a n ≡ true → (rename to n).a ≡ get_or to n.a 0
   a' e = ap (λ u. cond u (get_or to n.a 0) n.a) e
 
-  a_kept : usesA n ≡ false → (rename to n).a ≡ n.a
+  a_kept : uses_a n ≡ false → (rename to n).a ≡ n.a
   a_kept e = ap (λ u. cond u (get_or to n.a 0) n.a) e
 
-  b' : usesB n ≡ true → (rename to n).b ≡ get_or to n.b 0
+  b' : uses_b n ≡ true → (rename to n).b ≡ get_or to n.b 0
   b' e = ap (λ u. cond u (get_or to n.b 0) n.b) e
 
-  b_kept : usesB n ≡ false → (rename to n).b ≡ n.b
+  b_kept : uses_b n ≡ false → (rename to n).b ≡ n.b
   b_kept e = ap (λ u. cond u (get_or to n.b 0) n.b) e
 
-  rename_shape : (q i m : ℕ) → Shape q i n → (usesA n ≡ true → get_or to n.a 0 < m) → (usesB n ≡ true → get_or to n.b 0 < m) → T (next_node q m (rename to n))
+  rename_shape : (q i m : ℕ) → Shape q i n → (uses_a n ≡ true → get_or to n.a 0 < m) → (uses_b n ≡ true → get_or to n.b 0 < m) → T (next_node q m (rename to n))
   rename_shape q i m (always c a b) p r =
       subst (λ (k : ℕ). T (fits q m (rename to n).a (rename to n).b k)) (sym c) (T_and _ _ (eq_T _ _ (a_kept (a_of n 0 c) ∙ a)) (eq_T _ _ (b_kept (b_of n 0 c) ∙ b)))
   rename_shape q i m (asks c a b) p r =
@@ -80,14 +80,14 @@ module _ (to : List ℕ) (n : Node) where
       subst (λ (k : ℕ). T (fits q m (rename to n).a (rename to n).b k)) (sym c)
       (T_and _ _ (lt_T _ _ (subst (λ (z : ℕ). z < m) (sym (a' (a_of n 5 c))) (p (a_of n 5 c)))) (eq_T _ _ (b_kept (b_of n 5 c) ∙ b)))
 
-  pub rename_fits : (q i m : ℕ) → T (next_node q i n) → (usesA n ≡ true → get_or to n.a 0 < m) → (usesB n ≡ true → get_or to n.b 0 < m) → T (next_node q m (rename to n))
+  pub rename_fits : (q i m : ℕ) → T (next_node q i n) → (uses_a n ≡ true → get_or to n.a 0 < m) → (uses_b n ≡ true → get_or to n.b 0 < m) → T (next_node q m (rename to n))
   rename_fits q i m h p r = rename_shape q i m (shape q i n h) p r
 
-  module _ (fs gs : List Formula) (p : usesA n ≡ true → get_or fs (get_or to n.a 0) truth ≡ get_or gs n.a truth) (r : usesB n ≡ true → get_or fs (get_or to n.b 0) truth ≡ get_or gs n.b truth) where
-    at_a : usesA n ≡ true → get_or fs (rename to n).a truth ≡ get_or gs n.a truth
+  module _ (fs gs : List Formula) (p : uses_a n ≡ true → get_or fs (get_or to n.a 0) truth ≡ get_or gs n.a truth) (r : uses_b n ≡ true → get_or fs (get_or to n.b 0) truth ≡ get_or gs n.b truth) where
+    at_a : uses_a n ≡ true → get_or fs (rename to n).a truth ≡ get_or gs n.a truth
     at_a e = ap (λ (z : ℕ). get_or fs z truth) (a' e) ∙ p e
 
-    at_b : usesB n ≡ true → get_or fs (rename to n).b truth ≡ get_or gs n.b truth
+    at_b : uses_b n ≡ true → get_or fs (rename to n).b truth ≡ get_or gs n.b truth
     at_b e = ap (λ (z : ℕ). get_or fs z truth) (b' e) ∙ r e
 
     same_shape : (q i : ℕ) → Shape q i n → made fs (rename to n) ≡ made gs n
@@ -100,13 +100,13 @@ module _ (to : List ℕ) (n : Node) where
     same_shape q i (steps c a b) = made_at fs (rename to n) 5 c ∙ ap EX (at_a (a_of n 5 c)) ∙ sym (made_at gs n 5 c)
 
     -- It makes of the new formulas what the node makes of the old.
-    pub rename-made : (q i : ℕ) → T (next_node q i n) → made fs (rename to n) ≡ made gs n
-    rename-made q i h = same_shape q i (shape q i n h)
+    pub rename_made : (q i : ℕ) → T (next_node q i n) → made fs (rename to n) ≡ made gs n
+    rename_made q i h = same_shape q i (shape q i n h)
 
 -- Two renumberings that agree on what the node names.
-pub rename-same : (to to' : List ℕ) (n : Node) → (usesA n ≡ true → get_or to' n.a 0 ≡ get_or to n.a 0) → (usesB n ≡ true → get_or to' n.b 0 ≡ get_or to n.b 0)
+pub rename_same : (to to' : List ℕ) (n : Node) → (uses_a n ≡ true → get_or to' n.a 0 ≡ get_or to n.a 0) → (uses_b n ≡ true → get_or to' n.b 0 ≡ get_or to n.b 0)
     → rename to' n ≡ rename to n
-rename-same to to' n p r = λ i. record { code = n.code; a = go (usesA n) n.a p i; b = go (usesB n) n.b r i }
+rename_same to to' n p r = λ i. record { code = n.code; a = go (uses_a n) n.a p i; b = go (uses_b n) n.b r i }
   where
     go : (u : Bool) (x : ℕ) → (u ≡ true → get_or to' x 0 ≡ get_or to x 0) → cond u (get_or to' x 0) x ≡ cond u (get_or to x 0) x
     go true x h = h refl

@@ -52,9 +52,9 @@ closed_of a b k h = go (level a b k) (rested a b k) refl refl h
     go true true e f h = inr (alike_T a b k e f)
     go true false e f h = absurd h
 
-pub closed-to : (a b : Kripke) (k : ℕ) → ClosedAfter a b k → T (closed a b k)
-closed-to a b k (inl d) = (or_T (not (level a b k)) (rested a b k)).1 (inl (T_not _ (λ t. d ((same-T a b k a.initial b.initial).0 t))))
-closed-to a b k (inr z) = (or_T (not (level a b k)) (rested a b k)).1 (inr (rested-T a b k z))
+pub closed_to : (a b : Kripke) (k : ℕ) → ClosedAfter a b k → T (closed a b k)
+closed_to a b k (inl d) = (or_T (not (level a b k)) (rested a b k)).1 (inl (T_not _ (λ t. d ((same-T a b k a.initial b.initial).0 t))))
+closed_to a b k (inr z) = (or_T (not (level a b k)) (rested a b k)).1 (inr (rested-T a b k z))
 
 -- Open after every number of rounds below k.
 abbrev pub Fresh : Kripke → Kripke → ℕ → Type 0
@@ -67,7 +67,7 @@ fresh_more a b k h e j l = elim (ℕ_discrete j k) [
 ]
 
 pub fresh_closed : (a b : Kripke) (k : ℕ) → Fresh a b k → (j : ℕ) → j < k → ClosedAfter a b j → ⊥
-fresh_closed a b k h j l z = not_T _ (h j l) (closed-to a b j z)
+fresh_closed a b k h j l z = not_T _ (h j l) (closed_to a b j z)
 
 module _ (q : ℕ) (a b : Kripke) (la : Lawful q a) (lb : Lawful q b) where
   -- An open comparison has had fewer rounds than there are states, and so any one no more.
@@ -123,7 +123,7 @@ module _ (a b : Kripke) (k : ℕ) where
   round_refused e = record { broken = breach.closed (closed_of a b k (subst T (sym e) tt)); least = round_least; layered = refl }
 
   pub round_clean : closed a b k ≡ false → Clean (RoundBreach a b k)
-  round_clean e _ _ (breach.closed z) = no_T _ e (closed-to a b k z)
+  round_clean e _ _ (breach.closed z) = no_T _ e (closed_to a b k z)
 
   verdict_least : (d : Cause) (p : ℕ) → Before d p OpenComparison k → VerdictBreach a b k d p → ⊥
   verdict_least _ _ (inl l) (unclosed z) = omega arith
@@ -132,7 +132,7 @@ module _ (a b : Kripke) (k : ℕ) where
   pub verdict_refused : closed a b k ≡ false
       → First (VerdictBreach a b k) layer.Comparison (record { cause = OpenComparison; layer = layer.Comparison; place = k })
   verdict_refused e = record {
-    broken = unclosed (λ z. no_T (closed a b k) e (closed-to a b k z));
+    broken = unclosed (λ z. no_T (closed a b k) e (closed_to a b k z));
     least = verdict_least;
     layered = refl;
   }
@@ -152,14 +152,14 @@ module _ (a b : Kripke) (i : ℕ) where
   class_clean h _ _ (beyond z) = omega arith
 
 module _ (a b : Kripke) (k places : ℕ) where
-  formula-first : (d : Cause) (p : ℕ) → Before d p NotDifferent k → FormulaBreach a b k places d p → ⊥
-  formula-first _ _ (inl l) (no_difference z) = omega arith
-  formula-first _ _ (inr l) (no_difference z) = omega (arith, l.1)
-  formula-first _ _ (inl l) (few z) = omega arith
-  formula-first _ _ (inr l) (few z) = omega (arith, l.0)
+  formula_first : (d : Cause) (p : ℕ) → Before d p NotDifferent k → FormulaBreach a b k places d p → ⊥
+  formula_first _ _ (inl l) (no_difference z) = omega arith
+  formula_first _ _ (inr l) (no_difference z) = omega (arith, l.1)
+  formula_first _ _ (inl l) (few z) = omega arith
+  formula_first _ _ (inr l) (few z) = omega (arith, l.0)
 
   pub formula_refused : level a b k ≡ true → First (FormulaBreach a b k places) layer.Comparison (record { cause = NotDifferent; layer = layer.Comparison; place = k })
-  formula_refused e = record { broken = no_difference (λ d. d (same_of a b k e)); least = formula-first; layered = refl }
+  formula_refused e = record { broken = no_difference (λ d. d (same_of a b k e)); least = formula_first; layered = refl }
 
   places_first : level a b k ≡ false → (d : Cause) (p : ℕ) → Before d p FewPlaces places → FormulaBreach a b k places d p → ⊥
   places_first e _ _ (inl l) (no_difference z) = z (different_T a b k e)

@@ -8,8 +8,8 @@ use Rattle.kripke.specs.Rounds.{Separates, total}
 use Rattle.kripke.specs.Union.{both}
 use Rattle.kripke.specs.declared.node.Node.{Node}
 use Rattle.kripke.proofs.Closing.{different_separated}
-use Rattle.kripke.proofs.Numbers.{first_of, second-to}
-use Rattle.kripke.proofs.Unions.{both-size, both-holds, both-closed}
+use Rattle.kripke.proofs.Numbers.{first_of, second_to}
+use Rattle.kripke.proofs.Unions.{both_size, both_holds, both_closed}
 use Rattle.refine.specs.Tests.{test}
 use Rattle.refine.proofs.Orders.{Shape, always, asks, denies, joins, steps, shape, well_formed, next_only, and_T}
 use Rattle.refine.proofs.Somes.{T-yes}
@@ -54,12 +54,12 @@ module _ (c : Comparison) (e : level (first c) (second c) (rounds c) ≡ false) 
   other_in = omega (arith, (second_lawful c.stages).begins)
 
   whole : (i : ℕ) → i < total (first c) (second c) → T (test (both (first c) (second c)) (root (table c)) i) ↔ Holds (both (first c) (second c)) (root (table c)) i
-  whole i l = test_holds (both (first c) (second c)) (both-closed (first c) (second c) (first_lawful c.stages).closed (second_lawful c.stages).closed) (root (table c)) plain i
-      (omega (arith, l, both-size (first c) (second c)))
+  whole i l = test_holds (both (first c) (second c)) (both_closed (first c) (second c) (first_lawful c.stages).closed (second_lawful c.stages).closed) (root (table c)) plain i
+      (omega (arith, l, both_size (first c) (second c)))
 
   here : Holds (first c) (root (table c)) (first c).initial
   here = first_of (first c) (second c) (λ k s. Holds k (root (table c)) s) (first c).initial (first_lawful c.stages).begins
-      ((both-holds (first c) (second c) (first_lawful c.stages).closed (second_lawful c.stages).closed (root (table c)) (first c).initial one_in).1
+      ((both_holds (first c) (second c) (first_lawful c.stages).closed (second_lawful c.stages).closed (root (table c)) (first c).initial one_in).1
       ((whole (first c).initial one_in).0 (and_T _ _ tested).0))
 
   there : Holds (second c) (root (table c)) (second c).initial → ⊥
@@ -67,8 +67,8 @@ module _ (c : Comparison) (e : level (first c) (second c) (rounds c) ≡ false) 
       let j : ℕ = size (first c) + (second c).initial in
       let z : size (first c) + (second c).initial - size (first c) ≡ (second c).initial = omega arith in
       not_T _ (and_T _ _ tested).1 ((whole j other_in).1
-      ((both-holds (first c) (second c) (first_lawful c.stages).closed (second_lawful c.stages).closed (root (table c)) j other_in).0
-      (second-to (first c) (second c) (λ k s. Holds k (root (table c)) s) j (omega arith) (subst (λ (s : ℕ). Holds (second c) (root (table c)) s) (sym z) h))))
+      ((both_holds (first c) (second c) (first_lawful c.stages).closed (second_lawful c.stages).closed (root (table c)) j other_in).0
+      (second_to (first c) (second c) (λ k s. Holds k (root (table c)) s) j (omega arith) (subst (λ (s : ℕ). Holds (second c) (root (table c)) s) (sym z) h))))
 
   least : (f : Formula) → NextOnly f → Separates (first c) (second c) (first c).initial (second c).initial f → rounds c ≤ nesting f
   least = (different_separated (questions c) (first c) (second c) (first_lawful c.stages) (second_lawful c.stages) (rounds c)

@@ -4,11 +4,11 @@ use Rattle.kripke.specs.Nodes.{blank, formula}
 use Rattle.kripke.specs.Nodes as nodes
 use Rattle.kripke.specs.declared.node.Node.{Node}
 use Rattle.refine.specs.Growth.{Orderly}
-use Rattle.compare.specs.Reach.{usesA, usesB, Reach}
+use Rattle.compare.specs.Reach.{uses_a, uses_b, Reach}
 
 -- The node with the numbers that `to` has for what it names.
 abbrev pub rename : List ℕ → Node → Node
-rename to n = record { code = n.code; a = cond (usesA n) (slice_index to n.a) n.a; b = cond (usesB n) (slice_index to n.b) n.b }
+rename to n = record { code = n.code; a = cond (uses_a n) (slice_index to n.a) n.a; b = cond (uses_b n) (slice_index to n.b) n.b }
 
 -- The marked nodes below i are ms, in their order; `to` has the new number of each.
 pub record Copied (q : ℕ) (ns : List Node) (ks : List Bool) (i : ℕ) (to : List ℕ) (ms : List Node) : Type 0 where

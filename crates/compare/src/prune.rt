@@ -1,6 +1,6 @@
 ghost use Rattle.std.specs.Prelude.{◌≡◌, ◌+◌, ◌<◌, ◌≤◌, true, [], length, if◌then◌else◌, vec_capacity, slice_index, slice_set};
 ghost use Rattle.compare.specs.Pruned.{Pruned, rename};
-ghost use Rattle.compare.specs.Reach.{Marking, usesA, usesB};
+ghost use Rattle.compare.specs.Reach.{Marking, uses_a, uses_b};
 
 use kripke::node::Node;
 use refine::partition::Partition;
@@ -13,13 +13,13 @@ const QUESTION: u8 = 1;
 const AND: u8 = 3;
 
 fn uses_a(n: Node) -> bool
-    ensures { result ≡ usesA n }
+    ensures { result ≡ uses_a n }
 {
     n.code != TRUTH && n.code != QUESTION
 }
 
 fn uses_b(n: Node) -> bool
-    ensures { result ≡ usesB n }
+    ensures { result ≡ uses_b n }
 {
     n.code == AND
 }
@@ -43,8 +43,8 @@ fn place(on: bool, x: u16, to: &[u16; 2048]) -> u16
 }
 
 fn renamed(n: Node, to: &[u16; 2048]) -> Node
-    requires a { usesA n ≡ true → n.a < 2048 }
-    requires b { usesB n ≡ true → n.b < 2048 }
+    requires a { uses_a n ≡ true → n.a < 2048 }
+    requires b { uses_b n ≡ true → n.b < 2048 }
     ensures { result ≡ rename to.now n }
 {
     Node {

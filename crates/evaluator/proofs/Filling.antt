@@ -7,7 +7,7 @@ use Rattle.kripke.specs.Structure.{Kripke, Lawful}
 use Rattle.kripke.specs.Ctl.{Formula, truth}
 use Rattle.kripke.specs.Nodes.{Operator, constant, asking, unary, binary, operator, formula, formulas, Ordered, WellFormed, blank}
 use Rattle.kripke.specs.declared.node.Node.{Node}
-use Rattle.kripke.proofs.Tables.{formula-at}
+use Rattle.kripke.proofs.Tables.{formula_at}
 use Rattle.evaluator.specs.Rows.{bit, at, Tells}
 use Rattle.evaluator.specs.Marks.{Applies, Fed, Filled, marks}
 
@@ -22,8 +22,8 @@ mid_after : (a w : ℕ) (xs ys : List ℕ) (j : ℕ) → a ≤ length xs → len
 mid_after a w xs ys j h l m = search (rules, places)
 
 -- Marks that are the same tell the same.
-pub tells-same : (n : ℕ) (k : Kripke) → Lawful n k → (f : Formula) (p q : ℕ → Bool) → ((s : ℕ) → s < 256 → q s ≡ p s) → Tells k f p → Tells k f q
-tells-same n k law f p q same t = record {
+pub tells_same : (n : ℕ) (k : Kripke) → Lawful n k → (f : Formula) (p q : ℕ → Bool) → ((s : ℕ) → s < 256 → q s ≡ p s) → Tells k f p → Tells k f q
+tells_same n k law f p q same t = record {
   here = λ s h. let e = same s (omega (arith, law.few)) in (λ on. (t.here s h).0 (sym e ∙ on), λ x. e ∙ (t.here s h).1 x);
   beyond = λ s h l. same s l ∙ t.beyond s h l;
 }
@@ -47,7 +47,7 @@ pub one_filled : (n : ℕ) (k : Kripke) (law : Lawful n k) (ns : List Node) (i w
 one_filled n k law ns i w us ws row p q lawful l room four long isa isb app e = record {
   rows = λ j h. ⊎_elim
       (λ (same : j ≡ i). subst (λ (m : ℕ). Tells k (formula ns m) (at (put_mid (4 * i) w ws row) m)) (sym same) here)
-      (λ (ne : j ≡ i → ⊥). tells-same n k law (formula ns j) (at ws j) (at (put_mid (4 * i) w ws row) j)
+      (λ (ne : j ≡ i → ⊥). tells_same n k law (formula ns j) (at ws j) (at (put_mid (4 * i) w ws row) j)
       (λ s m. ap (λ (x : ℕ). bit x (s % 64)) (mid_before (4 * i) w ws row (4 * j + s / 64) (omega arith) (omega arith))) (e.rows j (omega arith)))
       (cases_eq j i);
   past = λ j h. mid_after (4 * i) w ws row j (omega arith) (long ∙ sym four) (omega arith) ∙ e.past j (omega arith);
@@ -57,9 +57,9 @@ one_filled n k law ns i w us ws row p q lawful l room four long isa isb app e = 
     here =
         let a : ℕ = (get_or ns i blank).a in
         let b : ℕ = (get_or ns i blank).b in
-        tells-same n k law (formula ns i) (marks row) (at (put_mid (4 * i) w ws row) i)
+        tells_same n k law (formula ns i) (marks row) (at (put_mid (4 * i) w ws row) i)
         (λ s m. ap (λ (x : ℕ). bit x (s % 64)) (mid_at (4 * i) w ws row (s / 64) (omega arith) (omega arith)))
-        (subst (λ (f : Formula). Tells k f (marks row)) (sym (formula-at n ns lawful i l))
+        (subst (λ (f : Formula). Tells k f (marks row)) (sym (formula_at n ns lawful i l))
         (app (formulas ns) (fed k (operator (get_or ns i blank)) (formulas ns) n i a b p q (lawful i l).1
-        (λ h. tells-same n k law (formula ns a) (at ws a) p (isa h) (e.rows a h))
-        (λ h. tells-same n k law (formula ns b) (at ws b) q (isb h) (e.rows b h)))))
+        (λ h. tells_same n k law (formula ns a) (at ws a) p (isa h) (e.rows a h))
+        (λ h. tells_same n k law (formula ns b) (at ws b) q (isb h) (e.rows b h)))))

@@ -87,14 +87,14 @@ module _ (n : ℕ) (k : Kripke) (law : Lawful n k) where
 
   -- With the row that has every state marked.
   module _ (full : ℕ → Bool) (whole : Whole k full) where
-    every-state : Fits Anything full
-    every-state s h = (λ on. tt, λ x. full_on n k law full whole s h)
+    every_state : Fits Anything full
+    every_state s h = (λ on. tt, λ x. full_on n k law full whole s h)
 
     pub is_true : Tells k truth full
-    is_true = record { here = every-state; beyond = λ s h l. whole s l ∙ le-ltb s (size k) h }
+    is_true = record { here = every_state; beyond = λ s h l. whole s l ∙ le-ltb s (size k) h }
 
-    pub is-not : (f : Formula) (a r : ℕ → Bool) → Tells k f a → Differs full a r → Tells k (Formula.not f) r
-    is-not f a r ma is = record {
+    pub is_not : (f : Formula) (a r : ℕ → Bool) → Tells k f a → Differs full a r → Tells k (Formula.not f) r
+    is_not f a r ma is = record {
       here = λ s h. (
         λ on x. both_ways (a s) (turned_off n k law full whole a r is s h on) ((ma.here s h).1 x),
         λ no. ⊎_elim (λ on. absurd (no ((ma.here s h).0 on))) (λ off. turned_on n k law full whole a r is s h off) (cases_Bool (a s)),
@@ -102,13 +102,13 @@ module _ (n : ℕ) (k : Kripke) (law : Lawful n k) where
       beyond = turned_trim n k law full whole a r is ma.beyond;
     }
 
-    pub is-ef : (f : Formula) (a r : ℕ → Bool) → Tells k f a → (Trim k a → Divides k false (Until (Marked full) (Marked a)) r) → Tells k (EF f) r
-    is-ef f a r ma d =
-        record { here = told_until false Anything (Holds k f) full a r every-state ma.here (d ma.beyond); beyond = (d ma.beyond).beyond }
+    pub is_ef : (f : Formula) (a r : ℕ → Bool) → Tells k f a → (Trim k a → Divides k false (Until (Marked full) (Marked a)) r) → Tells k (EF f) r
+    is_ef f a r ma d =
+        record { here = told_until false Anything (Holds k f) full a r every_state ma.here (d ma.beyond); beyond = (d ma.beyond).beyond }
 
-    pub is-af : (f : Formula) (a r : ℕ → Bool) → Tells k f a → (Trim k a → Divides k true (Until (Marked full) (Marked a)) r) → Tells k (AF f) r
-    is-af f a r ma d =
-        record { here = told_until true Anything (Holds k f) full a r every-state ma.here (d ma.beyond); beyond = (d ma.beyond).beyond }
+    pub is_af : (f : Formula) (a r : ℕ → Bool) → Tells k f a → (Trim k a → Divides k true (Until (Marked full) (Marked a)) r) → Tells k (AF f) r
+    is_af f a r ma d =
+        record { here = told_until true Anything (Holds k f) full a r every_state ma.here (d ma.beyond); beyond = (d ma.beyond).beyond }
 
 -- A node by its code.
 pub by_code : (k : Kripke) (code x a b : ℕ) (p q r : ℕ → Bool) → code ≡ x → Applies k (get_or operators x constant) a b p q r → Applies k (get_or operators code constant) a b p q r

@@ -6,10 +6,10 @@ use Rattle.std.proofs.lemmas.Nat.{shr-shr, mod_below}
 use Rattle.evaluator.specs.Rows.{bit}
 use Rattle.evaluator.specs.Marks.{marks, tally}
 
-pub tally-same : (p q : ℕ → Bool) (n : ℕ) → ((j : ℕ) → j < n → p j ≡ q j) → tally p n ≡ tally q n
+pub tally_same : (p q : ℕ → Bool) (n : ℕ) → ((j : ℕ) → j < n → p j ≡ q j) → tally p n ≡ tally q n
 unfolding tally
-tally-same p q zero h = refl
-tally-same p q (suc n) h = ap₂ (λ (b : Bool) (m : ℕ). cond b 1 0 + m) (h n (omega arith)) (tally-same p q n (λ j l. h j (omega arith)))
+tally_same p q zero h = refl
+tally_same p q (suc n) h = ap₂ (λ (b : Bool) (m : ℕ). cond b 1 0 + m) (h n (omega arith)) (tally_same p q n (λ j l. h j (omega arith)))
 
 pub tally_add : (p : ℕ → Bool) (m n : ℕ) → tally p (m + n) ≡ tally (λ j. p (m + j)) n + tally p m
 unfolding tally
@@ -18,14 +18,14 @@ tally_add p m (suc n) =
     ap (tally p) (add-suc m n) ∙ ap (λ (x : ℕ). cond (p (m + n)) 1 0 + x) (tally_add p m n)
     ∙ sym (add_assoc (cond (p (m + n)) 1 0) (tally (λ j. p (m + j)) n) (tally p m))
 
-one-digit : (x : ℕ) → x < 2 → x ≡ cond (eqb x 1) 1 0
-one-digit zero h = refl
-one-digit (suc zero) h = refl
-one-digit (suc (suc x)) h = absurd (omega arith)
+one_digit : (x : ℕ) → x < 2 → x ≡ cond (eqb x 1) 1 0
+one_digit zero h = refl
+one_digit (suc zero) h = refl
+one_digit (suc (suc x)) h = absurd (omega arith)
 
-tally-one : (p : ℕ → Bool) → tally p 1 ≡ cond (p 0) 1 0
+tally_one : (p : ℕ → Bool) → tally p 1 ≡ cond (p 0) 1 0
 unfolding tally
-tally-one p = add-zero (cond (p 0) 1 0)
+tally_one p = add-zero (cond (p 0) 1 0)
 
 tally_none : (p : ℕ → Bool) → tally p 0 ≡ 0
 unfolding tally
@@ -40,17 +40,17 @@ pub ones_tally : (k w : ℕ) → w < 2 ^ k → ones w ≡ tally (bit w) k
 ones_tally zero w h = ap ones (let z : w ≡ 0 = omega arith in z) ∙ ones_zero ∙ sym (tally_none (bit w))
 ones_tally (suc k) w h =
     let small : w / 2 < 2 ^ k = omega (arith, pow-suc 2 k) in
-    let low : w % 2 ≡ cond (bit w 0) 1 0 = one-digit (w % 2) (mod_below w 2 (omega arith)) ∙ ap (λ (x : ℕ). cond (eqb (x % 2) 1) 1 0) (sym (div-one w)) in
+    let low : w % 2 ≡ cond (bit w 0) 1 0 = one_digit (w % 2) (mod_below w 2 (omega arith)) ∙ ap (λ (x : ℕ). cond (eqb (x % 2) 1) 1 0) (sym (div-one w)) in
     let high : ones (w / 2) ≡ tally (λ j. bit w (1 + j)) k =
-    ones_tally k (w / 2) small ∙ tally-same (bit (w / 2)) (λ j. bit w (1 + j)) k (λ j l. ap (λ (x : ℕ). eqb (x % 2) 1) (shr-shr w 1 j)) in
-    let all : tally (bit w) (1 + k) ≡ tally (λ j. bit w (1 + j)) k + cond (bit w 0) 1 0 = tally_add (bit w) 1 k ∙ ap (λ (x : ℕ). tally (λ j. bit w (1 + j)) k + x) (tally-one (bit w)) in
+    ones_tally k (w / 2) small ∙ tally_same (bit (w / 2)) (λ j. bit w (1 + j)) k (λ j l. ap (λ (x : ℕ). eqb (x % 2) 1) (shr-shr w 1 j)) in
+    let all : tally (bit w) (1 + k) ≡ tally (λ j. bit w (1 + j)) k + cond (bit w 0) 1 0 = tally_add (bit w) 1 k ∙ ap (λ (x : ℕ). tally (λ j. bit w (1 + j)) k + x) (tally_one (bit w)) in
     let on : suc k ≡ 1 + k = omega arith in
     ones_step w ∙ ap₂ (λ (x y : ℕ). x + y) low high ∙ omega (arith, all, ap (tally (bit w)) on)
 
 -- word q of a row
-word-tally : (ws : List ℕ) (q : ℕ) → get_or ws q 0 < 2 ^ 64 → tally (λ j. marks ws (64 * q + j)) 64 ≡ ones (get_or ws q 0)
-word-tally ws q h =
-    tally-same (λ j. marks ws (64 * q + j)) (bit (get_or ws q 0)) 64
+word_tally : (ws : List ℕ) (q : ℕ) → get_or ws q 0 < 2 ^ 64 → tally (λ j. marks ws (64 * q + j)) 64 ≡ ones (get_or ws q 0)
+word_tally ws q h =
+    tally_same (λ j. marks ws (64 * q + j)) (bit (get_or ws q 0)) 64
     (λ j l. let e : (64 * q + j) / 64 ≡ q = omega arith in let f : (64 * q + j) % 64 ≡ j = omega arith in
     ap (λ (x : ℕ). bit (get_or ws x 0) ((64 * q + j) % 64)) e ∙ ap (λ (x : ℕ). bit (get_or ws q 0) x) f)
     ∙ sym (ones_tally 64 (get_or ws q 0) h)
@@ -61,10 +61,10 @@ row_tally ws h =
     let a3 = tally_add p 192 64 in
     let a2 = tally_add p 128 64 in
     let a1 = tally_add p 64 64 in
-    let w0 : tally p 64 ≡ ones (get_or ws 0 0) = tally-same p (λ j. p (64 * 0 + j)) 64 (λ j l. ap p (omega arith)) ∙ word-tally ws 0 (h 0) in
-    let w1 = word-tally ws 1 (h 1) in
-    let w2 = word-tally ws 2 (h 2) in
-    let w3 = word-tally ws 3 (h 3) in
+    let w0 : tally p 64 ≡ ones (get_or ws 0 0) = tally_same p (λ j. p (64 * 0 + j)) 64 (λ j l. ap p (omega arith)) ∙ word_tally ws 0 (h 0) in
+    let w1 = word_tally ws 1 (h 1) in
+    let w2 = word_tally ws 2 (h 2) in
+    let w3 = word_tally ws 3 (h 3) in
     omega arith
 
 -- a place that is marked for the first time: the measure 256 - tally falls
@@ -74,7 +74,7 @@ tally_mark p q zero s l off now same = absurd (omega arith)
 tally_mark p q (suc n) s l off now same =
     ⊎_elim
     (λ (e : n ≡ s).
-    let rest : tally q n ≡ tally p n = tally-same q p n (λ j m. same j (omega arith) (λ f. omega arith)) in
+    let rest : tally q n ≡ tally p n = tally_same q p n (λ j m. same j (omega arith) (λ f. omega arith)) in
     let qn : ◌≡◌ {A = ℕ} (cond (q n) 1 0) 1 = ap (λ (b : Bool). cond b 1 0) (ap q e ∙ now) in
     let pn : ◌≡◌ {A = ℕ} (cond (p n) 1 0) 0 = ap (λ (b : Bool). cond b 1 0) (ap p e ∙ off) in
     omega arith)

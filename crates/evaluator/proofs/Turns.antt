@@ -62,9 +62,9 @@ module _ (n : ℕ) (k : Kripke) (law : Lawful n k) (full : ℕ → Bool) (whole 
     back true s m h = λ p way. m p way (h p way)
     back false s m h = (h.0, h.1, m h.0 h.1 h.2)
 
-    pub always-divides : (e : Bool) (leaving row : ℕ → Bool) → (Trim k lacking → Divides k (not e) Leaves leaving) → Differs full leaving row
+    pub always_divides : (e : Bool) (leaving row : ℕ → Bool) → (Trim k lacking → Divides k (not e) Leaves leaving) → Differs full leaving row
         → Trim k f → Divides k e (Always (Marked f)) row
-    always-divides e leaving row made last trim = record {
+    always_divides e leaving row made last trim = record {
       yes = λ s h on. back e s (stays s h) (tells.no s h (turned_off leaving row last s h on));
       no = λ s h off. paths_map k (not e) s _ _ (leaves s h) (tells.yes s h (turned_back leaving row last s h off));
       beyond = turned_trim leaving row last tells.beyond;

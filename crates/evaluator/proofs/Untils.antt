@@ -5,10 +5,10 @@ use Rattle.kripke.specs.Structure.{Kripke, Closed, Member, size, successors}
 use Rattle.kripke.specs.Ctl.{Path, Until}
 use Rattle.evaluator.specs.Marks.{Marked, Paths, Sound, Still, every, some, steps}
 use Rattle.evaluator.proofs.Members.{every_yes, every_no, some_yes, some_no}
-use Rattle.kripke.proofs.Walks.{first, first_member, tail_path, second, ahead, ahead_path, from-here}
+use Rattle.kripke.proofs.Walks.{first, first_member, tail_path, second, ahead, ahead_path, from_here}
 
-until-ahead : (P Q : ℕ → Type 0) (p : ℕ → ℕ) → P (p 0) → Until P Q (λ i. p (suc i)) → Until P Q p
-until-ahead P Q p h (n, g, f) = (suc n, g, before)
+until_ahead : (P Q : ℕ → Type 0) (p : ℕ → ℕ) → P (p 0) → Until P Q (λ i. p (suc i)) → Until P Q p
+until_ahead P Q p h (n, g, f) = (suc n, g, before)
   where
     before : (j : ℕ) → j < suc n → P (p j)
     before zero l = h
@@ -22,19 +22,19 @@ module _ (k : Kripke) (law : Closed k) (f g : ℕ → Bool) where
   pub at_once : (e : Bool) (s : ℕ) → s < size k → g s ≡ true → Paths k e s U
   at_once true s h on = λ p way. (0, ap g way.starts ∙ on, λ i l. absurd (omega arith))
   at_once false s h on =
-      let w = from-here k law s h in
+      let w = from_here k law s h in
       (w.0, w.1, (0, ap g w.1.starts ∙ on, λ i l. absurd (omega arith)))
 
   -- A state of f that steps to marked states.
   pub one_more : (e : Bool) (q : ℕ → Bool) → Sound k e f g q → (s : ℕ) → s < size k → f s ≡ true → steps e q (successors k s) ≡ true → Paths k e s U
   one_more true q sound s h hf on = λ p way.
       let m = second k s p way in
-      until-ahead (Marked f) (Marked g) p (ap f way.starts ∙ hf)
+      until_ahead (Marked f) (Marked g) p (ap f way.starts ∙ hf)
       (sound (p 1) (law.inside s (p 1) h m) (every_yes q (successors k s) on (p 1) m) (λ i. p (suc i)) (tail_path k s p way))
   one_more false q sound s h hf on =
       let (u, m, hu) = some_yes q (successors k s) on in
       let (p, way, un) = sound u (law.inside s u h m) hu in
-      (ahead s p, ahead_path k s u p m way, until-ahead (Marked f) (Marked g) (ahead s p) hf un)
+      (ahead s p, ahead_path k s u p m way, until_ahead (Marked f) (Marked g) (ahead s p) hf un)
 
   -- Where every state of g is marked, and no state of f is left to mark.
   module _ (q : ℕ → Bool) (above : (t : ℕ) → t < size k → g t ≡ true → q t ≡ true) where
@@ -44,11 +44,11 @@ module _ (k : Kripke) (law : Closed k) (f g : ℕ → Bool) where
     some_out still zero s h out p way hg hf = both_ways (q s) out (above s h (ap g (sym way.starts) ∙ hg))
     some_out still (suc n) s h out p way hg hf =
         let m = second k s p way in
-        some_out still n (p 1) (law.inside s (p 1) h m) (next-out (cases_Bool (some q (successors k s))) m) (λ i. p (suc i)) (tail_path k s p way) hg (λ i l. hf (suc i) (omega arith))
+        some_out still n (p 1) (law.inside s (p 1) h m) (next_out (cases_Bool (some q (successors k s))) m) (λ i. p (suc i)) (tail_path k s p way) hg (λ i l. hf (suc i) (omega arith))
       where
-        next-out : (some q (successors k s) ≡ true) ⊎ (some q (successors k s) ≡ false) → Member (p 1) (successors k s) → q (p 1) ≡ false
-        next-out (inl on) m = absurd (both_ways (q s) out (still s h (ap f (sym way.starts) ∙ hf 0 (omega arith)) on))
-        next-out (inr off) m = some_no q (successors k s) off (p 1) m
+        next_out : (some q (successors k s) ≡ true) ⊎ (some q (successors k s) ≡ false) → Member (p 1) (successors k s) → q (p 1) ≡ false
+        next_out (inl on) m = absurd (both_ways (q s) out (still s h (ap f (sym way.starts) ∙ hf 0 (omega arith)) on))
+        next_out (inr off) m = some_no q (successors k s) off (p 1) m
 
     -- From an unmarked state on to a successor that is not marked, where there is one, and so on for ever.
     abbrev choose : (s : ℕ) → s < size k → (u : ℕ) × Member u (successors k s) × ((every q (successors k s) ≡ true) ⊎ (q u ≡ false))
@@ -61,25 +61,25 @@ module _ (k : Kripke) (law : Closed k) (f g : ℕ → Bool) where
     run s h zero = s
     run s h (suc i) = run (choose s h).0 (law.inside s (choose s h).0 h (choose s h).1) i
 
-    run-steps : (s : ℕ) (h : s < size k) (i : ℕ) → Member (run s h (suc i)) (successors k (run s h i))
+    run_steps : (s : ℕ) (h : s < size k) (i : ℕ) → Member (run s h (suc i)) (successors k (run s h i))
     unfolding run
-    run-steps s h zero = (choose s h).1
-    run-steps s h (suc i) = run-steps (choose s h).0 (law.inside s (choose s h).0 h (choose s h).1) i
+    run_steps s h zero = (choose s h).1
+    run_steps s h (suc i) = run_steps (choose s h).0 (law.inside s (choose s h).0 h (choose s h).1) i
 
-    run-path : (s : ℕ) (h : s < size k) → Path k s (run s h)
+    run_path : (s : ℕ) (h : s < size k) → Path k s (run s h)
     unfolding run
-    run-path s h = record { starts = refl; steps = run-steps s h }
+    run_path s h = record { starts = refl; steps = run_steps s h }
 
-    each-out : Still k true f q → (n s : ℕ) (h : s < size k) → q s ≡ false → g (run s h n) ≡ true
+    each_out : Still k true f q → (n s : ℕ) (h : s < size k) → q s ≡ false → g (run s h n) ≡ true
         → ((i : ℕ) → i < n → f (run s h i) ≡ true) → ⊥
     unfolding run
-    each-out still zero s h out hg hf = both_ways (q s) out (above s h hg)
-    each-out still (suc n) s h out hg hf =
+    each_out still zero s h out hg hf = both_ways (q s) out (above s h hg)
+    each_out still (suc n) s h out hg hf =
         ⊎_elim
         (λ on. both_ways (q s) out (still s h (hf 0 (omega arith)) on))
-        (λ out'. each-out still n (choose s h).0 (law.inside s (choose s h).0 h (choose s h).1) out' hg (λ i l. hf (suc i) (omega arith)))
+        (λ out'. each_out still n (choose s h).0 (law.inside s (choose s h).0 h (choose s h).1) out' hg (λ i l. hf (suc i) (omega arith)))
         (choose s h).2
 
     pub outside : (e : Bool) → Still k e f q → (s : ℕ) → s < size k → q s ≡ false → Paths k (not e) s (λ p. U p → ⊥)
-    outside true still s h out = (run s h, run-path s h, λ u. each-out still u.0 s h out u.1 u.2)
+    outside true still s h out = (run s h, run_path s h, λ u. each_out still u.0 s h out u.1 u.2)
     outside false still s h out = λ p way u. some_out still u.0 s h out p way u.1 u.2

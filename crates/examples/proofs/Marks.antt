@@ -9,8 +9,8 @@ use Rattle.evaluator.specs.Marks.{Marked, Trim, Whole, Divides, Still, steps}
 use Rattle.evaluator.proofs.Untils.{one_more}
 use Rattle.evaluator.proofs.Sweeps.{Grown, sown, reaped}
 use Rattle.evaluator.proofs.Nexts.{next_divides}
-use Rattle.evaluator.proofs.Turns.{always-divides}
-use Rattle.evaluator.proofs.Meanings.{is_true, is_question, is-not, is_and, is_or, is_ex, is_ax, is-ef, is-af, is_eg, is_ag, is_eu, is_au}
+use Rattle.evaluator.proofs.Turns.{always_divides}
+use Rattle.evaluator.proofs.Meanings.{is_true, is_question, is_not, is_and, is_or, is_ex, is_ax, is_ef, is_af, is_eg, is_ag, is_eu, is_au}
 use Rattle.examples.proofs.Tests.{whole, turned, grown, until, still, marks, enough}
 
 module _ (n : ℕ) (k : Kripke) (law : Lawful n k) where
@@ -20,11 +20,11 @@ module _ (n : ℕ) (k : Kripke) (law : Lawful n k) where
   all_trim : Trim k (whole k)
   all_trim s h l = le-ltb s (size k) h
 
-  grown-grown : (e : Bool) (f g : ℕ → Bool) → Trim k f → (j : ℕ) → Grown k e f g (grown k e f g j)
-  grown-grown e f g trim zero = sown n k law e f g
-  grown-grown e f g trim (suc j) =
+  grown_grown : (e : Bool) (f g : ℕ → Bool) → Trim k f → (j : ℕ) → Grown k e f g (grown k e f g j)
+  grown_grown e f g trim zero = sown n k law e f g
+  grown_grown e f g trim (suc j) =
       let more = λ (s : ℕ). f s && steps e (grown k e f g j) (successors k s) in
-      let a = grown-grown e f g trim j in
+      let a = grown_grown e f g trim j in
       record {
         above = λ s l on. or_left (grown k e f g j s) (more s) (a.above s l on);
         sound = λ s h on. ⊎_elim
@@ -42,20 +42,20 @@ module _ (n : ℕ) (k : Kripke) (law : Lawful n k) where
       ((or_T (not (f s && steps e q (successors k s))) (q s)).0 ((below-T (λ s. not (f s && steps e q (successors k s)) || q s) (size k)).0 t s h))
 
   until_divides : (e : Bool) (f g : ℕ → Bool) → Trim k f → T (still k e f (until k e f g)) → Trim k g → Divides k e (Until (Marked f) (Marked g)) (until k e f g)
-  until_divides e f g trim t = reaped n k law e f g (until k e f g) (grown-grown e f g trim (size k)) (still_T e f (until k e f g) t)
+  until_divides e f g trim t = reaped n k law e f g (until k e f g) (grown_grown e f g trim (size k)) (still_T e f (until k e f g) t)
 
   -- A path leaves f when it comes to a state that is not marked.
   always : (e : Bool) (f : Formula) → T (still k (not e) (whole k) (until k (not e) (whole k) (turned k (marks k f))))
       → Trim k (marks k f) → Divides k e (Always (Marked (marks k f))) (turned k (until k (not e) (whole k) (turned k (marks k f))))
   always e f t =
-      always-divides n k law (whole k) all (marks k f) (turned k (marks k f)) (λ s l. refl) e (until k (not e) (whole k) (turned k (marks k f)))
+      always_divides n k law (whole k) all (marks k f) (turned k (marks k f)) (λ s l. refl) e (until k (not e) (whole k) (turned k (marks k f)))
       (turned k (until k (not e) (whole k) (turned k (marks k f)))) (until_divides (not e) (whole k) (turned k (marks k f)) all_trim t) (λ s l. refl)
 
   pub marks_tell : (f : Formula) → T (enough k f) → Tells k f (marks k f)
   unfolding marks enough
   marks_tell truth t = is_true n k law (whole k) all
   marks_tell (question i) t = is_question n k law i (marks k (question i)) (λ s l. refl)
-  marks_tell (Formula.not f) t = is-not n k law (whole k) all f (marks k f) (marks k (Formula.not f)) (marks_tell f t) (λ s l. refl)
+  marks_tell (Formula.not f) t = is_not n k law (whole k) all f (marks k f) (marks k (Formula.not f)) (marks_tell f t) (λ s l. refl)
   marks_tell (and f g) t =
       let (x, y) = (and_T (enough k f) (enough k g)).0 t in
       is_and n k law f g (marks k f) (marks k g) (marks k (and f g)) (marks_tell f x) (marks_tell g y) (λ s l. refl)
@@ -66,10 +66,10 @@ module _ (n : ℕ) (k : Kripke) (law : Lawful n k) where
   marks_tell (AX f) t = is_ax n k law f (marks k f) (marks k (AX f)) (marks_tell f t) (next_divides n k law true (marks k f) (marks k (AX f)) (λ s l. refl))
   marks_tell (EF f) t =
       let (x, y) = (and_T (enough k f) (still k false (whole k) (until k false (whole k) (marks k f)))).0 t in
-      is-ef n k law (whole k) all f (marks k f) (marks k (EF f)) (marks_tell f x) (until_divides false (whole k) (marks k f) all_trim y)
+      is_ef n k law (whole k) all f (marks k f) (marks k (EF f)) (marks_tell f x) (until_divides false (whole k) (marks k f) all_trim y)
   marks_tell (AF f) t =
       let (x, y) = (and_T (enough k f) (still k true (whole k) (until k true (whole k) (marks k f)))).0 t in
-      is-af n k law (whole k) all f (marks k f) (marks k (AF f)) (marks_tell f x) (until_divides true (whole k) (marks k f) all_trim y)
+      is_af n k law (whole k) all f (marks k f) (marks k (AF f)) (marks_tell f x) (until_divides true (whole k) (marks k f) all_trim y)
   marks_tell (EG f) t =
       let (x, y) = (and_T (enough k f) (still k true (whole k) (until k true (whole k) (turned k (marks k f))))).0 t in
       is_eg n k law f (marks k f) (marks k (EG f)) (marks_tell f x) (always false f y)

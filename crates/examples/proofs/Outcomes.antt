@@ -42,7 +42,7 @@ abbrev chained : List ℕ → List Mark
 chained text = whole (chain (kinds (tokens 0 0 text)))
 
 abbrev outcome : ℕ → Row → Outcome
-outcome i (answers level fault preAlarm alarm question said) = found i (beq (get_or (bands level fault preAlarm alarm) question false) said)
+outcome i (answers level fault pre_alarm alarm question said) = found i (beq (get_or (bands level fault pre_alarm alarm) question false) said)
 outcome i (says k f said) = found i (lawful 32 k && (enough k f && beq said (marks k f k.initial)))
 outcome i (closes a b v k) = found i (lawful 32 a && (lawful 32 b && (first_closed a b k && verdict a b v k)))
 outcome i (reads text ns) =
@@ -56,7 +56,7 @@ outcome i (evaluated ns w) = found i (is_well_formed 32 ns && leb (4 * length ns
 outcome i (unevaluated ns w) = found i (is_well_formed 32 ns && ltb w (4 * length ns))
 
 abbrev claim : Row → Outcome
-claim (answers level fault preAlarm alarm question said) = fine
+claim (answers level fault pre_alarm alarm question said) = fine
 claim (says k f said) = fine
 claim (closes a b v k) = fine
 claim (reads text ns) = read_as true (toks (whole (root ns))) ns
@@ -67,8 +67,8 @@ claim (evaluated ns w) = fine
 claim (unevaluated ns w) = fine
 
 right : (i : ℕ) (r : Row) → outcome i r ≡ claim r → Holding r
-right i (answers level fault preAlarm alarm question said) e =
-    (beq-T (get_or (bands level fault preAlarm alarm) question false) said).0 (passed i _ e)
+right i (answers level fault pre_alarm alarm question said) e =
+    (beq-T (get_or (bands level fault pre_alarm alarm) question false) said).0 (passed i _ e)
 right i (says k f said) e =
     let (x, u) = (and_T (lawful 32 k) (enough k f && beq said (marks k f k.initial))).0 (passed i _ e) in
     let (y, z) = (and_T (enough k f) (beq said (marks k f k.initial))).0 u in
@@ -113,7 +113,7 @@ right i (evaluated ns w) e =
 right i (unevaluated ns w) e =
     let (x, y) = (and_T (is_well_formed 32 ns) (ltb w (4 * length ns))).0 (passed i _ e) in
     let (s, f, o) = table_right 32 ns x in
-    evaluation.first-words 32 ns w s f o (ltb-true w (4 * length ns) ((T_true (ltb w (4 * length ns))).0 y))
+    evaluation.first_words 32 ns w s f o (ltb-true w (4 * length ns) ((T_true (ltb w (4 * length ns))).0 y))
 
 -- What comes out at the rows, the first of which has number i, and what is claimed of them.
 abbrev pub outcomes : ℕ → List Row → List Outcome

@@ -17,7 +17,7 @@ use Rattle.reader.specs.Phrases as why
 use Rattle.reader.specs.declared.token.Token.{Token}
 use Rattle.reader.specs.declared.token.Token.TheVariants as token
 use Rattle.reader.proofs.Lawful.{well_formed}
-use Rattle.reader.proofs.Verdicts.{one-formula, clean, told}
+use Rattle.reader.proofs.Verdicts.{one_formula, clean, told}
 use Rattle.examples.specs.Rows.{Read}
 use Rattle.examples.proofs.Tests.{asked, limited, skip}
 
@@ -49,7 +49,7 @@ reads_right text ns t u v is same before room = record {
     formula = f;
     sentence = is;
     within = within;
-    only = λ g h. one-formula text g f h is;
+    only = λ g h. one_formula text g f h is;
     counted = ap (λ l. length l) (sym same);
     written = ap (λ l. l ++ drop (length ns) before) (sym same);
     rooted = ap root same;

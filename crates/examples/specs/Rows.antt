@@ -17,7 +17,7 @@ pub data Verdict : Type 0 where
 
 pub data Row : Type 0 where
   -- a reading of this level, with these limits, answers the question so
-  answers : (level fault preAlarm alarm question : ℕ) → Bool → Row
+  answers : (level fault pre_alarm alarm question : ℕ) → Bool → Row
   -- the formula holds at the structure's initial state, or it does not
   says : Kripke → Formula → Bool → Row
   -- the comparison closes after k rounds, with this verdict
@@ -56,7 +56,7 @@ pub record Read (text : List ℕ) (ns before : List Node) : Type 0 where
   pub read : Reads text 32 before (ns ++ drop (length ns) before) (length ns)
 
 abbrev pub Holding : Row → Type 0
-Holding (answers level fault preAlarm alarm question said) = slice_index_or (bands level fault preAlarm alarm) question false ≡ said
+Holding (answers level fault pre_alarm alarm question said) = slice_index_or (bands level fault pre_alarm alarm) question false ≡ said
 Holding (says k f said) = Lawful 32 k × Is said (Holds k f k.initial)
 Holding (closes a b v k) = Closes a b v k
 Holding (reads text ns) = (before : List Node) → length ns ≤ length before → Read text ns before

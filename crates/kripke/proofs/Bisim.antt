@@ -36,17 +36,17 @@ Alike R P P' = (s t : ℕ) → R s t → P s ↔ P' t
 abbrev AlikeOn : (ℕ → ℕ → Type 0) → ((ℕ → ℕ) → Type 0) → ((ℕ → ℕ) → Type 0) → Type 0
 AlikeOn R Φ Ψ = (p q : ℕ → ℕ) → ((i : ℕ) → R (p i) (q i)) → Φ p ↔ Ψ q
 
-module _ (R : ℕ → ℕ → Type 0) (P P' : ℕ → Type 0) (onP : Alike R P P') where
+module _ (R : ℕ → ℕ → Type 0) (P P' : ℕ → Type 0) (on_p : Alike R P P') where
   next_alike : AlikeOn R (Next P) (Next P')
-  next_alike p q rs = onP (p 1) (q 1) (rs 1)
+  next_alike p q rs = on_p (p 1) (q 1) (rs 1)
 
   always_alike : AlikeOn R (Always P) (Always P')
-  always_alike p q rs = (λ h i. (onP (p i) (q i) (rs i)).0 (h i), λ h i. (onP (p i) (q i) (rs i)).1 (h i))
+  always_alike p q rs = (λ h i. (on_p (p i) (q i) (rs i)).0 (h i), λ h i. (on_p (p i) (q i) (rs i)).1 (h i))
 
   until_alike : (Q Q' : ℕ → Type 0) → Alike R Q Q' → AlikeOn R (Until P Q) (Until P' Q')
-  until_alike Q Q' onQ p q rs = (
-    λ h. (h.0, (onQ (p h.0) (q h.0) (rs h.0)).0 h.1, λ j l. (onP (p j) (q j) (rs j)).0 (h.2 j l)),
-    λ h. (h.0, (onQ (p h.0) (q h.0) (rs h.0)).1 h.1, λ j l. (onP (p j) (q j) (rs j)).1 (h.2 j l)),
+  until_alike Q Q' on_q p q rs = (
+    λ h. (h.0, (on_q (p h.0) (q h.0) (rs h.0)).0 h.1, λ j l. (on_p (p j) (q j) (rs j)).0 (h.2 j l)),
+    λ h. (h.0, (on_q (p h.0) (q h.0) (rs h.0)).1 h.1, λ j l. (on_p (p j) (q j) (rs j)).1 (h.2 j l)),
   )
 
 module _ (a b : Kripke) (R : ℕ → ℕ → Type 0) (z : Bisim a b R) (Φ Ψ : (ℕ → ℕ) → Type 0) (same : AlikeOn R Φ Ψ) where

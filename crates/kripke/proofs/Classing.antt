@@ -7,9 +7,9 @@ use Rattle.kripke.specs.Tests.{together}
 use Rattle.kripke.specs.Union.{both}
 use Rattle.kripke.specs.Classes.{Alike, Numbered, Low, Led, Opened, Refined, Count, Classes}
 use Rattle.kripke.proofs.Reflect.{beq_iff, eqb-T, together-T}
-use Rattle.kripke.proofs.Numbers.{first_to, first_of, second-to, second_of}
+use Rattle.kripke.proofs.Numbers.{first_to, first_of, second_to, second_of}
 use Rattle.kripke.proofs.Equal.{together_refl, class_low, class_own, class_same, class_one}
-use Rattle.kripke.proofs.Unions.{both-size, both-closed, both-together}
+use Rattle.kripke.proofs.Unions.{both_size, both_closed, both_together}
 use Rattle.kripke.proofs.Growth.{count_map}
 
 -- A list of class numbers as a fact of a struct, and as the statement that one number means being together.
@@ -33,30 +33,30 @@ matched_map u law R S on i j hi hj h v m =
 module _ (a b : Kripke) (la : Closed a) (lb : Closed b) where
   -- States of one label are together at the opening.
   pub opened_numbered : (cls : List ℕ) → Opened a b cls → Numbered a b 0 cls
-  opened_numbered cls o = numbered_of a b 0 cls (λ i j hi hj. Iff.trans (o i j hi hj) (Iff.symm (both-together a b la lb 0 i j hi hj)))
+  opened_numbered cls o = numbered_of a b 0 cls (λ i j hi hj. Iff.trans (o i j hi hj) (Iff.symm (both_together a b la lb 0 i j hi hj)))
 
   -- A round of refinement numbers the classes after one round more.
   pub round_numbered : (k : ℕ) (old new : List ℕ) → Numbered a b k old → Refined a b old new → Numbered a b (suc k) new
-  round_numbered k old new n r = numbered_of a b (suc k) new (λ i j hi hj. Iff.trans (r i j hi hj) (Iff.trans (step i j hi hj) (Iff.symm (both-together a b la lb (suc k) i j hi hj))))
+  round_numbered k old new n r = numbered_of a b (suc k) new (λ i j hi hj. Iff.trans (r i j hi hj) (Iff.trans (step i j hi hj) (Iff.symm (both_together a b la lb (suc k) i j hi hj))))
     where
       to : (v w : ℕ) → v < size (both a b) → w < size (both a b) → Alike old v w → Same (both a b) (both a b) k v w
       to v w hv hw e =
-          let lv : v < total a b = omega (arith, both-size a b) in
-          let lw : w < total a b = omega (arith, both-size a b) in
-          (both-together a b la lb k v w lv lw).0 ((numbered_to a b k old n v w lv lw).0 e)
+          let lv : v < total a b = omega (arith, both_size a b) in
+          let lw : w < total a b = omega (arith, both_size a b) in
+          (both_together a b la lb k v w lv lw).0 ((numbered_to a b k old n v w lv lw).0 e)
 
       of : (v w : ℕ) → v < size (both a b) → w < size (both a b) → Same (both a b) (both a b) k v w → Alike old v w
       of v w hv hw s =
-          let lv : v < total a b = omega (arith, both-size a b) in
-          let lw : w < total a b = omega (arith, both-size a b) in
-          (numbered_to a b k old n v w lv lw).1 ((both-together a b la lb k v w lv lw).1 s)
+          let lv : v < total a b = omega (arith, both_size a b) in
+          let lw : w < total a b = omega (arith, both_size a b) in
+          (numbered_to a b k old n v w lv lw).1 ((both_together a b la lb k v w lv lw).1 s)
 
       step : (i j : ℕ) → i < total a b → j < total a b
           → (Alike old i j × Matched (Alike old) (both a b) (both a b) i j × Matched (λ v u. Alike old u v) (both a b) (both a b) j i) ↔ Same (both a b) (both a b) (suc k) i j
       step i j hi hj =
-          let law = both-closed a b la lb in
-          let li : i < size (both a b) = omega (arith, both-size a b) in
-          let lj : j < size (both a b) = omega (arith, both-size a b) in (
+          let law = both_closed a b la lb in
+          let li : i < size (both a b) = omega (arith, both_size a b) in
+          let lj : j < size (both a b) = omega (arith, both_size a b) in (
             λ h. (to i j li lj h.0, matched_map (both a b) law _ _ to i j li lj h.1, matched_map (both a b) law _ _ (λ w v hw hv e. to v w hv hw e) j i lj li h.2),
             λ h. (of i j li lj h.0, matched_map (both a b) law _ _ of i j li lj h.1, matched_map (both a b) law _ _ (λ w v hw hv e. of v w hv hw e) j i lj li h.2),
           )
@@ -83,18 +83,18 @@ module _ (a b : Kripke) (k : ℕ) (cls : List ℕ) where
       }
 
   module _ (each : (i : ℕ) → i < total a b → ClassOf a b k i (get_or cls i 0)) where
-    pub of-class-numbered : Numbered a b k cls
-    of-class-numbered = numbered_of a b k cls (λ i j hi hj. (
+    pub of_class_numbered : Numbered a b k cls
+    of_class_numbered = numbered_of a b k cls (λ i j hi hj. (
       λ e. class_one a b k i j (get_or cls j 0) (subst (λ (c : ℕ). ClassOf a b k i c) e (each i hi)) (each j hj),
       λ h. class_same a b k i j (get_or cls i 0) (get_or cls j 0) hi hj (each i hi) (each j hj) h,
     ))
 
-    pub of-class-low : Low (total a b) cls
-    of-class-low i h = class_low a b k i (get_or cls i 0) h (each i h)
+    pub of_class_low : Low (total a b) cls
+    of_class_low i h = class_low a b k i (get_or cls i 0) h (each i h)
 
-    pub of-class-led : Led (total a b) cls
-    of-class-led i h =
-        let l = of-class-low i h in
+    pub of_class_led : Led (total a b) cls
+    of_class_led i h =
+        let l = of_class_low i h in
         let c = get_or cls i 0 in
         class_same a b k c c (get_or cls c 0) c (omega arith) (omega arith) (each c (omega arith)) (class_own a b k i c (each i h)) (together_refl a b k c)
 
@@ -105,8 +105,8 @@ module _ (a b : Kripke) (k : ℕ) (cls : List ℕ) where
     )
 
     -- The classes are as many as the states that have their own number.
-    pub table-classes : (c : ℕ) → Count (λ i. get_or cls i 0 ≡ i) (total a b) c ↔ Classes a b k c
-    table-classes c = (
+    pub table_classes : (c : ℕ) → Count (λ i. get_or cls i 0 ≡ i) (total a b) c ↔ Classes a b k c
+    table_classes c = (
       λ x. count_map _ _ (total a b) c x (λ i h. (leads i h).0) (λ i h. (leads i h).1),
       λ x. count_map _ _ (total a b) c x (λ i h. (leads i h).1) (λ i h. (leads i h).0),
     )
@@ -117,7 +117,7 @@ cross_together a b k s t hs =
     let l : size a ≤ size a + t = omega arith in
     let e : size a + t - size a ≡ t = omega arith in (
       λ h. first_to a b (λ x i. Same x (home a b (size a + t)) k i (place a b (size a + t))) s hs
-          (second-to a b (λ y j. Same a y k s j) (size a + t) l (subst (λ (j : ℕ). Same a b k s j) (sym e) h)),
+          (second_to a b (λ y j. Same a y k s j) (size a + t) l (subst (λ (j : ℕ). Same a b k s j) (sym e) h)),
       λ h. subst (λ (j : ℕ). Same a b k s j) e (second_of a b (λ y j. Same a y k s j) (size a + t) l
           (first_of a b (λ x i. Same x (home a b (size a + t)) k i (place a b (size a + t))) s hs h)),
     )

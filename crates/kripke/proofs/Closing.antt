@@ -9,13 +9,13 @@ use Rattle.kripke.proofs.Either.{Either, either_not, either_and, either_or, sure
 use Rattle.kripke.proofs.Reflect.{same_either}
 use Rattle.kripke.proofs.Sound.{unseparated, least_nesting}
 use Rattle.kripke.proofs.Separate.{same_or_separated, same_when_inseparable}
-use Rattle.kripke.proofs.Numbers.{first_listed, second_listed, home-closed, place_inside, settled_at}
+use Rattle.kripke.proofs.Numbers.{first_listed, second_listed, home_closed, place_inside, settled_at}
 use Rattle.kripke.proofs.Settle.{stable_agree}
 use Rattle.kripke.proofs.Counts.{classes_counted, classes_grow, settles}
 
 -- The same states of settled structures are not separated by any formula.
-settled-together : (a b : Kripke) → Closed a → Closed b → (k : ℕ) → Settled a b k → (s t : ℕ) → s < size a → t < size b → Same a b k s t → Apart a b s t → ⊥
-settled-together a b la lb k st s t hs ht h (f, z) =
+settled_together : (a b : Kripke) → Closed a → Closed b → (k : ℕ) → Settled a b k → (s t : ℕ) → s < size a → t < size b → Same a b k s t → Apart a b s t → ⊥
+settled_together a b la lb k st s t hs ht h (f, z) =
     unseparated a b s t f (stable_agree a b la lb k (settled_at a b k st a b (first_listed a b) (second_listed a b)) s t hs ht h f) z
 
 pub apart_by_rounds : ApartByRounds
@@ -24,7 +24,7 @@ apart_by_rounds a b la lb s t hs ht = (forth, back)
     forth : Apart a b s t → (k : ℕ) × (Same a b k s t → ⊥)
     forth apart =
         let (k, l, st) = settles a b (omega arith) in
-        (k, λ h. settled-together a b la lb k st s t hs ht h apart)
+        (k, λ h. settled_together a b la lb k st s t hs ht h apart)
 
     back : ((k : ℕ) × (Same a b k s t → ⊥)) → Apart a b s t
     back (k, n) = ⊎_elim (λ h. absurd (n h)) (λ (z : Separated a b k s t). (z.0, z.3)) (same_or_separated a b la lb k s t hs ht)
@@ -61,7 +61,7 @@ still_open q a b la lb k still =
 
 pub alike_agree : AlikeAgree
 alike_agree q a b la lb zero z = absurd z
-alike_agree q a b la lb (suc k) z = settled-together a b la.closed lb.closed k z.0 a.initial b.initial la.begins lb.begins z.1.0
+alike_agree q a b la lb (suc k) z = settled_together a b la.closed lb.closed k z.0 a.initial b.initial la.begins lb.begins z.1.0
 
 pub different_separated : DifferentSeparated
 different_separated q a b la lb k first different = (found, least)
@@ -90,5 +90,5 @@ class_by_formulas a b la lb k i c hi hc = (
   where
     to : (j : ℕ) → j < total a b → (Together a b k i j → Inseparable a b k i j) × (Inseparable a b k i j → Together a b k i j)
     to j h =
-        same_when_inseparable (home a b i) (home a b j) (home-closed a b la lb i) (home-closed a b la lb j) k (place a b i) (place a b j)
+        same_when_inseparable (home a b i) (home a b j) (home_closed a b la lb i) (home_closed a b la lb j) k (place a b i) (place a b j)
         (place_inside a b i hi) (place_inside a b j h)

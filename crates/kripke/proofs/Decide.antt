@@ -6,7 +6,7 @@ use Rattle.kripke.specs.Ctl.{Next, Always, Until, OnSome, OnEach, Anything, Hold
 use Rattle.kripke.specs.Theorems.{Decided}
 use Rattle.kripke.proofs.Either.{either_not, either_and, either_or, either_equal, surely}
 use Rattle.kripke.proofs.Walks.{through, second, path_inside}
-use Rattle.kripke.proofs.Untils.{DecidedAt, some_decided, every_decided, until-some, until_each}
+use Rattle.kripke.proofs.Untils.{DecidedAt, some_decided, every_decided, until_some, until_each}
 
 module _ (k : Kripke) (law : Closed k) where
   anything : DecidedAt k Anything
@@ -27,11 +27,11 @@ module _ (k : Kripke) (law : Closed k) where
       (λ no. inr (λ each. no (λ u m. let (p, way, e) = through k law s u h m in subst P e (each p way))))
       (every_decided k law P d s h)
 
-  some-until : (P Q : ℕ → Type 0) → DecidedAt k P → DecidedAt k Q → DecidedAt k (λ s. OnSome k s (Until P Q))
-  some-until P Q dP dQ s h = ⊎_elim inl (λ no. inr (λ z. no z.0 z.1 z.2)) (until-some k law P Q dP dQ s h)
+  some_until : (P Q : ℕ → Type 0) → DecidedAt k P → DecidedAt k Q → DecidedAt k (λ s. OnSome k s (Until P Q))
+  some_until P Q d_p d_q s h = ⊎_elim inl (λ no. inr (λ z. no z.0 z.1 z.2)) (until_some k law P Q d_p d_q s h)
 
   each_until : (P Q : ℕ → Type 0) → DecidedAt k P → DecidedAt k Q → DecidedAt k (λ s. OnEach k s (Until P Q))
-  each_until P Q dP dQ s h = ⊎_elim inl (λ z. inr (λ each. z.2 (each z.0 z.1))) (until_each k law P Q dP dQ s h)
+  each_until P Q d_p d_q s h = ⊎_elim inl (λ z. inr (λ each. z.2 (each z.0 z.1))) (until_each k law P Q d_p d_q s h)
 
   some_always : (P : ℕ → Type 0) → DecidedAt k P → DecidedAt k (λ s. OnSome k s (Always P))
   some_always P d s h =
@@ -45,7 +45,7 @@ module _ (k : Kripke) (law : Closed k) where
       ⊎_elim
       (λ z. inr (λ each. z.2.1 (each z.0 z.1 z.2.0)))
       (λ no. inl (λ p way i. surely (d (p i) (path_inside k law s h p way i)) (λ n. no p way (i, n, λ j l. tt))))
-      (until-some k law Anything (λ u. P u → ⊥) anything (λ u l. either_not (d u l)) s h)
+      (until_some k law Anything (λ u. P u → ⊥) anything (λ u l. either_not (d u l)) s h)
 
   pub decided_at : (f : Formula) → DecidedAt k (Holds k f)
   decided_at truth = anything
@@ -55,11 +55,11 @@ module _ (k : Kripke) (law : Closed k) where
   decided_at (or f g) = λ s h. either_or (decided_at f s h) (decided_at g s h)
   decided_at (EX f) = some_next _ (decided_at f)
   decided_at (AX f) = each_next _ (decided_at f)
-  decided_at (EF f) = some-until _ _ anything (decided_at f)
+  decided_at (EF f) = some_until _ _ anything (decided_at f)
   decided_at (AF f) = each_until _ _ anything (decided_at f)
   decided_at (EG f) = some_always _ (decided_at f)
   decided_at (AG f) = each_always _ (decided_at f)
-  decided_at (EU f g) = some-until _ _ (decided_at f) (decided_at g)
+  decided_at (EU f g) = some_until _ _ (decided_at f) (decided_at g)
   decided_at (AU f g) = each_until _ _ (decided_at f) (decided_at g)
 
 pub decided : Decided

@@ -13,18 +13,18 @@ module _ (a b : Kripke) (P : Kripke → ℕ → Type 0) where
   first_of i l x = subst (λ (y : Bool). P (cond y a b) (cond y i (i - size a))) (lt-ltb i (size a) l) x
 
   -- A number i from there on is state i - size a of the second, and back.
-  pub second-to : (i : ℕ) → size a ≤ i → P b (i - size a) → P (home a b i) (place a b i)
-  second-to i l x = subst (λ (y : Bool). P (cond y a b) (cond y i (i - size a))) (sym (le-ltb i (size a) l)) x
+  pub second_to : (i : ℕ) → size a ≤ i → P b (i - size a) → P (home a b i) (place a b i)
+  second_to i l x = subst (λ (y : Bool). P (cond y a b) (cond y i (i - size a))) (sym (le-ltb i (size a) l)) x
 
   pub second_of : (i : ℕ) → size a ≤ i → P (home a b i) (place a b i) → P b (i - size a)
   second_of i l x = subst (λ (y : Bool). P (cond y a b) (cond y i (i - size a))) (le-ltb i (size a) l) x
 
   pub by_home : ((s : ℕ) → s < size a → P a s) → ((t : ℕ) → t < size b → P b t) → (i : ℕ) → i < total a b → P (home a b i) (place a b i)
   by_home on-first on-second i h =
-      ⊎_elim (λ l. first_to i l (on-first i l)) (λ (l : size a ≤ i). second-to i l (on-second (i - size a) (omega arith))) (cases_lt i (size a))
+      ⊎_elim (λ l. first_to i l (on-first i l)) (λ (l : size a ≤ i). second_to i l (on-second (i - size a) (omega arith))) (cases_lt i (size a))
 
-pub home-closed : (a b : Kripke) → Closed a → Closed b → (i : ℕ) → Closed (home a b i)
-home-closed a b la lb i = cond_both (ltb i (size a)) a b Closed (λ _. la) (λ _. lb)
+pub home_closed : (a b : Kripke) → Closed a → Closed b → (i : ℕ) → Closed (home a b i)
+home_closed a b la lb i = cond_both (ltb i (size a)) a b Closed (λ _. la) (λ _. lb)
 
 pub place_inside : (a b : Kripke) (i : ℕ) → i < total a b → place a b i < size (home a b i)
 place_inside a b = by_home a b (λ k s. s < size k) (λ s h. h) (λ t h. h)
@@ -39,7 +39,7 @@ first_listed a b s h = (s, omega arith, first_to a b (λ k t. k ≡ a) s h refl,
 pub second_listed : (a b : Kripke) → Listed a b b
 second_listed a b s h =
     let l : size a ≤ size a + s = omega arith in
-    (size a + s, omega arith, second-to a b (λ k t. k ≡ b) (size a + s) l refl, second-to a b (λ k t. t ≡ s) (size a + s) l (omega arith))
+    (size a + s, omega arith, second_to a b (λ k t. k ≡ b) (size a + s) l refl, second_to a b (λ k t. t ≡ s) (size a + s) l (omega arith))
 
 pub home_listed : (a b : Kripke) (i : ℕ) → Listed a b (home a b i)
 home_listed a b i = cond_both (ltb i (size a)) a b (Listed a b) (λ _. first_listed a b) (λ _. second_listed a b)
@@ -61,8 +61,8 @@ settled_at a b k settled x y on-x on-y s t hs ht h =
 pub settled_on : (a b : Kripke) → Closed a → Closed b → (k : ℕ) → Settled a b k → Settled a b (suc k)
 settled_on a b la lb k settled i j hi hj h =
     let on = settled_at a b k settled (home a b i) (home a b j) (home_listed a b i) (home_listed a b j) in
-    let ci = home-closed a b la lb i in
-    let cj = home-closed a b la lb j in
+    let ci = home_closed a b la lb i in
+    let cj = home_closed a b la lb j in
     let si = place_inside a b i hi in
     let sj = place_inside a b j hj in (
       h,

@@ -6,7 +6,7 @@ use Rattle.kripke.specs.Rounds.{Same, home, place}
 use Rattle.kripke.specs.Theorems.{SettledAgree}
 use Rattle.kripke.proofs.Bisim.{Bisim, agree}
 use Rattle.kripke.proofs.Sound.{same_answers}
-use Rattle.kripke.proofs.Numbers.{home-closed, home_listed, place_inside, settled_at}
+use Rattle.kripke.proofs.Numbers.{home_closed, home_listed, place_inside, settled_at}
 
 module _ (x y : Kripke) (lx : Closed x) (ly : Closed y) (k : ℕ) (stable : (s t : ℕ) → s < size x → t < size y → Same x y k s t → Same x y (suc k) s t) where
   abbrev Kept : ℕ → ℕ → Type 0
@@ -22,8 +22,8 @@ module _ (x y : Kripke) (lx : Closed x) (ly : Closed y) (k : ℕ) (stable : (s t
   pub stable_agree : (s t : ℕ) → s < size x → t < size y → Same x y k s t → (f : Formula) → Holds x f s ↔ Holds y f t
   stable_agree s t hs ht h f = agree x y Kept kept_bisim f s t (hs, ht, h)
 
-pub settled-agree : SettledAgree
-settled-agree a b la lb k settled i j hi hj h f =
-    stable_agree (home a b i) (home a b j) (home-closed a b la lb i) (home-closed a b la lb j) k
+pub settled_agree : SettledAgree
+settled_agree a b la lb k settled i j hi hj h f =
+    stable_agree (home a b i) (home a b j) (home_closed a b la lb i) (home_closed a b la lb j) k
     (settled_at a b k settled (home a b i) (home a b j) (home_listed a b i) (home_listed a b j))
     (place a b i) (place a b j) (place_inside a b i hi) (place_inside a b j hj) h f

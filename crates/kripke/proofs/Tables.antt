@@ -46,27 +46,27 @@ pub root-push : (ns : List Node) (n : Node) → root (ns ++ n ∷ []) ≡ made (
 root-push ns n = formula_new ns n (length (ns ++ n ∷ []) - 1) (omega (arith, length_push ns n))
 
 -- An operator makes the same of two lists of formulas that agree on the nodes it names.
-pub applied-same : (op : Operator) (q i a b : ℕ) → Ordered op q i a b → (fs gs : List Formula) → ((j : ℕ) → j < i → get_or fs j truth ≡ get_or gs j truth)
+pub applied_same : (op : Operator) (q i a b : ℕ) → Ordered op q i a b → (fs gs : List Formula) → ((j : ℕ) → j < i → get_or fs j truth ≡ get_or gs j truth)
     → applied op fs a b ≡ applied op gs a b
-applied-same constant q i a b h fs gs e = refl
-applied-same asking q i a b h fs gs e = refl
-applied-same (unary op) q i a b h fs gs e = ap op (e a h.0)
-applied-same (binary op) q i a b h fs gs e = ap₂ op (e a h.0) (e b h.1)
+applied_same constant q i a b h fs gs e = refl
+applied_same asking q i a b h fs gs e = refl
+applied_same (unary op) q i a b h fs gs e = ap op (e a h.0)
+applied_same (binary op) q i a b h fs gs e = ap₂ op (e a h.0) (e b h.1)
 
-grown-at : (q : ℕ) (fs : List Formula) (ns : List Node) (j i : ℕ) → length fs + j ≡ i → j < length ns → LawfulNode q i (get_or ns j blank)
+grown_at : (q : ℕ) (fs : List Formula) (ns : List Node) (j i : ℕ) → length fs + j ≡ i → j < length ns → LawfulNode q i (get_or ns j blank)
     → get_or (grown fs ns) i truth ≡ made (grown fs ns) (get_or ns j blank)
 unfolding grown
-grown-at q fs [] j i e l h = absurd (omega arith)
-grown-at q fs (n ∷ ns) zero i e l h =
+grown_at q fs [] j i e l h = absurd (omega arith)
+grown_at q fs (n ∷ ns) zero i e l h =
     grown_keeps (fs ++ made fs n ∷ []) ns i (omega (arith, length_push fs (made fs n))) ∙ (get_or_push fs (made fs n) truth i (omega arith)
-    ∙ applied-same (operator n) q i n.a n.b h.1 fs (grown (fs ++ made fs n ∷ []) ns)
+    ∙ applied_same (operator n) q i n.a n.b h.1 fs (grown (fs ++ made fs n ∷ []) ns)
     (λ m b. sym (grown_keeps (fs ++ made fs n ∷ []) ns m (omega (arith, length_push fs (made fs n))) ∙ get_or_append_left fs (made fs n ∷ []) truth m (omega arith))))
-grown-at q fs (n ∷ ns) (suc j) i e l h = grown-at q (fs ++ made fs n ∷ []) ns j i (omega (arith, length_push fs (made fs n))) (omega arith) h
+grown_at q fs (n ∷ ns) (suc j) i e l h = grown_at q (fs ++ made fs n ∷ []) ns j i (omega (arith, length_push fs (made fs n))) (omega arith) h
 
 -- In a well-formed table the formula of node i is its operator on the formulas of the nodes that it names.
-pub formula-at : (q : ℕ) (ns : List Node) → WellFormed q ns → (i : ℕ) → i < length ns → formula ns i ≡ made (formulas ns) (get_or ns i blank)
+pub formula_at : (q : ℕ) (ns : List Node) → WellFormed q ns → (i : ℕ) → i < length ns → formula ns i ≡ made (formulas ns) (get_or ns i blank)
 unfolding formulas
-formula-at q ns w i l = grown-at q [] ns i i (omega arith) l (w i l)
+formula_at q ns w i l = grown_at q [] ns i i (omega arith) l (w i l)
 
 -- A well-formed table with a node in order appended, and one with its last nodes left out.
 pub well_formed_push : (q : ℕ) (ns : List Node) (n : Node) → WellFormed q ns → LawfulNode q (length ns) n → WellFormed q (ns ++ n ∷ [])

@@ -4,7 +4,7 @@ use Rattle.kripke.specs.Structure.{Kripke, Closed, Member, size, successors}
 use Rattle.kripke.specs.Ctl.{Path, Until, OnSome, OnEach}
 use Rattle.kripke.proofs.Either.{Either, either_and, either_or, each_or_some}
 use Rattle.kripke.proofs.Growth.{count_exists, at_rest}
-use Rattle.kripke.proofs.Walks.{first, first_member, ahead, ahead_path, tail_path, second, from-here}
+use Rattle.kripke.proofs.Walks.{first, first_member, ahead, ahead_path, tail_path, second, from_here}
 
 -- P is decided at every state.
 abbrev pub DecidedAt : Kripke → (ℕ → Type 0) → Type 0
@@ -19,7 +19,7 @@ pub every_decided : (k : Kripke) → Closed k → (P : ℕ → Type 0) → Decid
 every_decided k law P d s h =
     ⊎_elim inl (λ z. inr (λ all. z.2 (all z.0 z.1))) (each_or_some P _ (successors k s) (λ u m. d u (law.inside s u h m)))
 
-module _ (k : Kripke) (law : Closed k) (P Q : ℕ → Type 0) (dP : DecidedAt k P) (dQ : DecidedAt k Q) where
+module _ (k : Kripke) (law : Closed k) (P Q : ℕ → Type 0) (d_p : DecidedAt k P) (d_q : DecidedAt k Q) where
   -- From s one can, or must, come to Q by way of P within j steps.
   abbrev Can : ℕ → ℕ → Type 0
   Can zero s = Q s
@@ -30,12 +30,12 @@ module _ (k : Kripke) (law : Closed k) (P Q : ℕ → Type 0) (dP : DecidedAt k 
   Must (suc j) s = Must j s ⊎ (P s × ((u : ℕ) → Member u (successors k s) → Must j u))
 
   can_decided : (j : ℕ) → DecidedAt k (Can j)
-  can_decided zero s h = dQ s h
-  can_decided (suc j) s h = either_or (can_decided j s h) (either_and (dP s h) (some_decided k law (Can j) (can_decided j) s h))
+  can_decided zero s h = d_q s h
+  can_decided (suc j) s h = either_or (can_decided j s h) (either_and (d_p s h) (some_decided k law (Can j) (can_decided j) s h))
 
   must_decided : (j : ℕ) → DecidedAt k (Must j)
-  must_decided zero s h = dQ s h
-  must_decided (suc j) s h = either_or (must_decided j s h) (either_and (dP s h) (every_decided k law (Must j) (must_decided j) s h))
+  must_decided zero s h = d_q s h
+  must_decided (suc j) s h = either_or (must_decided j s h) (either_and (d_p s h) (every_decided k law (Must j) (must_decided j) s h))
 
   can_rest : (j : ℕ) × ((s : ℕ) → s < size k → Can (suc j) s → Can j s)
   can_rest =
@@ -58,8 +58,8 @@ module _ (k : Kripke) (law : Closed k) (P Q : ℕ → Type 0) (dP : DecidedAt k 
   must_from (suc j) s q = inl (must_from j s q)
 
   -- Until, one place later.
-  until-ahead : (p : ℕ → ℕ) → P (p 0) → Until P Q (λ i. p (suc i)) → Until P Q p
-  until-ahead p x (n, q, before) = (suc n, q, all)
+  until_ahead : (p : ℕ → ℕ) → P (p 0) → Until P Q (λ i. p (suc i)) → Until P Q p
+  until_ahead p x (n, q, before) = (suc n, q, all)
     where
       all : (i : ℕ) → i < suc n → P (p i)
       all zero l = x
@@ -68,19 +68,19 @@ module _ (k : Kripke) (law : Closed k) (P Q : ℕ → Type 0) (dP : DecidedAt k 
   -- From where one can come to Q a path does so, and from where one must each path does.
   can_in : (j s : ℕ) → s < size k → Can j s → OnSome k s (Until P Q)
   can_in zero s h q =
-      let (p, way) = from-here k law s h in
+      let (p, way) = from_here k law s h in
       (p, way, (0, subst Q (sym way.starts) q, λ i l. absurd (omega arith)))
   can_in (suc j) s h (inl c) = can_in j s h c
   can_in (suc j) s h (inr (x, (u, m, c))) =
       let (p, way, goes) = can_in j u (law.inside s u h m) c in
-      (ahead s p, ahead_path k s u p m way, until-ahead (ahead s p) x goes)
+      (ahead s p, ahead_path k s u p m way, until_ahead (ahead s p) x goes)
 
   must_in : (j s : ℕ) → s < size k → Must j s → OnEach k s (Until P Q)
   must_in zero s h q p way = (0, subst Q (sym way.starts) q, λ i l. absurd (omega arith))
   must_in (suc j) s h (inl c) p way = must_in j s h c p way
   must_in (suc j) s h (inr (x, c)) p way =
       let m = second k s p way in
-      until-ahead p (subst P (sym way.starts) x) (must_in j (p 1) (law.inside s (p 1) h m) (c (p 1) m) (λ i. p (suc i)) (tail_path k s p way))
+      until_ahead p (subst P (sym way.starts) x) (must_in j (p 1) (law.inside s (p 1) h m) (c (p 1) m) (λ i. p (suc i)) (tail_path k s p way))
 
   -- From outside of what has come to rest no path comes to Q.
   can_out : (j : ℕ) → ((s : ℕ) → s < size k → Can (suc j) s → Can j s)
@@ -91,8 +91,8 @@ module _ (k : Kripke) (law : Closed k) (P Q : ℕ → Type 0) (dP : DecidedAt k 
       can_out j rest n (p 1) (law.inside s (p 1) h m) (λ c. out (rest s h (inr (subst P way.starts (before 0 (omega arith)), (p 1, m, c)))))
       (λ i. p (suc i)) (tail_path k s p way) q (λ i l. before (suc i) (omega arith))
 
-  pub until-some : (s : ℕ) → s < size k → OnSome k s (Until P Q) ⊎ ((p : ℕ → ℕ) → Path k s p → Until P Q p → ⊥)
-  until-some s h =
+  pub until_some : (s : ℕ) → s < size k → OnSome k s (Until P Q) ⊎ ((p : ℕ → ℕ) → Path k s p → Until P Q p → ⊥)
+  until_some s h =
       let (j, rest) = can_rest in
       ⊎_elim (λ c. inl (can_in j s h c)) (λ out. inr (λ p way goes. can_out j rest goes.0 s h out p way goes.1 goes.2)) (can_decided j s h)
 
@@ -108,25 +108,25 @@ module _ (k : Kripke) (law : Closed k) (P Q : ℕ → Type 0) (dP : DecidedAt k 
     run s h zero = s
     run s h (suc i) = run (onward s h).0 (law.inside s (onward s h).0 h (onward s h).1) i
 
-    run-steps : (s : ℕ) (h : s < size k) (i : ℕ) → Member (run s h (suc i)) (successors k (run s h i))
+    run_steps : (s : ℕ) (h : s < size k) (i : ℕ) → Member (run s h (suc i)) (successors k (run s h i))
     unfolding run
-    run-steps s h zero = (onward s h).1
-    run-steps s h (suc i) = run-steps (onward s h).0 (law.inside s (onward s h).0 h (onward s h).1) i
+    run_steps s h zero = (onward s h).1
+    run_steps s h (suc i) = run_steps (onward s h).0 (law.inside s (onward s h).0 h (onward s h).1) i
 
-    run-path : (s : ℕ) (h : s < size k) → Path k s (run s h)
+    run_path : (s : ℕ) (h : s < size k) → Path k s (run s h)
     unfolding run
-    run-path s h = record { starts = refl; steps = run-steps s h }
+    run_path s h = record { starts = refl; steps = run_steps s h }
 
-    must-out : (n s : ℕ) (h : s < size k) → (Must j s → ⊥) → Q (run s h n) → ((i : ℕ) → i < n → P (run s h i)) → ⊥
+    must_out : (n s : ℕ) (h : s < size k) → (Must j s → ⊥) → Q (run s h n) → ((i : ℕ) → i < n → P (run s h i)) → ⊥
     unfolding run
-    must-out zero s h out q before = out (must_from j s q)
-    must-out (suc n) s h out q before =
+    must_out zero s h out q before = out (must_from j s q)
+    must_out (suc n) s h out q before =
         ⊎_elim
         (λ all. out (rest s h (inr (before 0 (omega arith), all))))
-        (λ out'. must-out n (onward s h).0 (law.inside s (onward s h).0 h (onward s h).1) out' q (λ i l. before (suc i) (omega arith)))
+        (λ out'. must_out n (onward s h).0 (law.inside s (onward s h).0 h (onward s h).1) out' q (λ i l. before (suc i) (omega arith)))
         (onward s h).2
 
   pub until_each : (s : ℕ) → s < size k → OnEach k s (Until P Q) ⊎ OnSome k s (λ p. Until P Q p → ⊥)
   until_each s h =
       let (j, rest) = must_rest in
-      ⊎_elim (λ c. inl (must_in j s h c)) (λ out. inr (run j rest s h, run-path j rest s h, λ goes. must-out j rest goes.0 s h out goes.1 goes.2)) (must_decided j s h)
+      ⊎_elim (λ c. inl (must_in j s h c)) (λ out. inr (run j rest s h, run_path j rest s h, λ goes. must_out j rest goes.0 s h out goes.1 goes.2)) (must_decided j s h)

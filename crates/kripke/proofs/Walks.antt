@@ -44,12 +44,12 @@ module _ (k : Kripke) where
         law.inside (walk k s i) (first (successors k (walk k s i))) w (first_member (successors k (walk k s i)) (law.onward (walk k s i) w))
 
     -- From each state there is a path, and one through each successor.
-    pub from-here : (s : ℕ) → s < size k → (p : ℕ → ℕ) × Path k s p
-    from-here s h = (walk k s, record { starts = refl; steps = λ i. first_member (successors k (walk k s i)) (law.onward (walk k s i) (walk_inside s h i)) })
+    pub from_here : (s : ℕ) → s < size k → (p : ℕ → ℕ) × Path k s p
+    from_here s h = (walk k s, record { starts = refl; steps = λ i. first_member (successors k (walk k s i)) (law.onward (walk k s i) (walk_inside s h i)) })
 
     pub through : (s t : ℕ) → s < size k → Member t (successors k s) → (p : ℕ → ℕ) × Path k s p × (p 1 ≡ t)
     through s t h m =
-        let (p, way) = from-here t (law.inside s t h m) in
+        let (p, way) = from_here t (law.inside s t h m) in
         (ahead s p, ahead_path s t p m way, way.starts)
 
     -- A path never leaves the structure.

@@ -12,7 +12,7 @@ bits word = map (λ i. bit word i) (range_with_len 0 32)
 
 -- A reading answers three: fault, pre-alarm, alarm.
 abbrev pub bands : ℕ → ℕ → ℕ → ℕ → List Bool
-bands level fault preAlarm alarm = nat_le level fault ∷ nat_le preAlarm level ∷ nat_le alarm level ∷ []
+bands level fault pre_alarm alarm = nat_le level fault ∷ nat_le pre_alarm level ∷ nat_le alarm level ∷ []
 
 -- How a label kind stands in an image: the kind's number, the answers of the label that four bytes code (none where they code no label), and the bytes of a fresh holder's label.
 pub record Coding : Type 0 where

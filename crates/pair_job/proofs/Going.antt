@@ -38,14 +38,14 @@ module _ (o c d : Comparison) (going : Going o c) where
       soon : rounds d ≤ total (first o) (second o)
       soon = omega (arith, r.one_more, r.soon, sizes)
 
-      now-open : ClosedAfter (first o) (second o) (rounds c) → ⊥
-      now-open x =
+      now_open : ClosedAfter (first o) (second o) (rounds c) → ⊥
+      now_open x =
           clean _ _ (closed (of_equal (λ a b. ClosedAfter a b (rounds c)) (sym going.same.first_is) (sym going.same.second_is) x))
 
       unclosed : (j : ℕ) → j < rounds d → ClosedAfter (first o) (second o) j → ⊥
       unclosed j l x =
           ⊎_elim (λ h. going.unclosed j h x)
-          (λ h. let e : j ≡ rounds c = omega (arith, h, l, r.one_more) in now-open (subst (ClosedAfter (first o) (second o)) e x))
+          (λ h. let e : j ≡ rounds c = omega (arith, h, l, r.one_more) in now_open (subst (ClosedAfter (first o) (second o)) e x))
           (cases_lt j (rounds c))
 
   pub falls : (n : ℕ) → Rounded c d n → total (first o) (second o) - rounds d < total (first o) (second o) - rounds c

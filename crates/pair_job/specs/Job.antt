@@ -39,8 +39,8 @@ pub record Accepts (c : Coding) (q : ℕ) (first second text : List ℕ) : Type 
   pub b : Kripke
   pub first_clean : Clean (Breach c first)
   pub second_clean : Clean (Breach c second)
-  pub first-model : Describes c first a
-  pub second-model : Describes c second b
+  pub first_model : Describes c first a
+  pub second_model : Describes c second b
   pub reports : Reports q a b text
 
 abbrev pub Compared : Coding → ℕ → List ℕ → List ℕ → Result (Vec ℕ Global) Error → Type 0

@@ -49,25 +49,25 @@ module _ (q : ℕ) (ns : List Node) (i l : ℕ) (x y w : List ℕ) (z : TwoAt ns
   two_stops_1 e h = whole b1 (Err e) (stop q b b1 z.first (f ++ (z.middle ++ (g ++ z.last))) e (first (Err e) h))
 
   module _ (u : Unit {0}) (h1 : Appends b x b1 (Ok u)) (b2 : List ℕ) where
-    on-1 : (b' : List ℕ) (r : Result (Unit {0}) Stop) → Spells q b1 (f ++ (z.middle ++ (g ++ z.last))) b' r → Spells q b (marks l (formula ns i)) b' r
-    on-1 b' r h = whole b' r (then q b b1 b' z.first (f ++ (z.middle ++ (g ++ z.last))) r (first (Ok u) h1) h)
+    on_1 : (b' : List ℕ) (r : Result (Unit {0}) Stop) → Spells q b1 (f ++ (z.middle ++ (g ++ z.last))) b' r → Spells q b (marks l (formula ns i)) b' r
+    on_1 b' r h = whole b' r (then q b b1 b' z.first (f ++ (z.middle ++ (g ++ z.last))) r (first (Ok u) h1) h)
 
-    pub two-stops-2 : (e : Stop) → Spells q b1 f b2 (Err e) → Spells q b (marks l (formula ns i)) b2 (Err e)
-    two-stops-2 e h = on-1 b2 (Err e) (stop q b1 b2 f (z.middle ++ (g ++ z.last)) e h)
+    pub two_stops_2 : (e : Stop) → Spells q b1 f b2 (Err e) → Spells q b (marks l (formula ns i)) b2 (Err e)
+    two_stops_2 e h = on_1 b2 (Err e) (stop q b1 b2 f (z.middle ++ (g ++ z.last)) e h)
 
     module _ (h2 : Spelt q b1 f b2) (b3 : List ℕ) where
-      on-2 : (b' : List ℕ) (r : Result (Unit {0}) Stop) → Spells q b2 (z.middle ++ (g ++ z.last)) b' r → Spells q b (marks l (formula ns i)) b' r
-      on-2 b' r h = on-1 b' r (then q b1 b2 b' f (z.middle ++ (g ++ z.last)) r h2 h)
+      on_2 : (b' : List ℕ) (r : Result (Unit {0}) Stop) → Spells q b2 (z.middle ++ (g ++ z.last)) b' r → Spells q b (marks l (formula ns i)) b' r
+      on_2 b' r h = on_1 b' r (then q b1 b2 b' f (z.middle ++ (g ++ z.last)) r h2 h)
 
-      pub two-stops-3 : (e : Stop) → Appends b2 y b3 (Err e) → Spells q b (marks l (formula ns i)) b3 (Err e)
-      two-stops-3 e h = on-2 b3 (Err e) (stop q b2 b3 z.middle (g ++ z.last) e (middle b2 b3 (Err e) h))
+      pub two_stops_3 : (e : Stop) → Appends b2 y b3 (Err e) → Spells q b (marks l (formula ns i)) b3 (Err e)
+      two_stops_3 e h = on_2 b3 (Err e) (stop q b2 b3 z.middle (g ++ z.last) e (middle b2 b3 (Err e) h))
 
       module _ (v : Unit {0}) (h3 : Appends b2 y b3 (Ok v)) (b4 : List ℕ) where
-        on-3 : (b' : List ℕ) (r : Result (Unit {0}) Stop) → Spells q b3 (g ++ z.last) b' r → Spells q b (marks l (formula ns i)) b' r
-        on-3 b' r h = on-2 b' r (then q b2 b3 b' z.middle (g ++ z.last) r (middle b2 b3 (Ok v) h3) h)
+        on_3 : (b' : List ℕ) (r : Result (Unit {0}) Stop) → Spells q b3 (g ++ z.last) b' r → Spells q b (marks l (formula ns i)) b' r
+        on_3 b' r h = on_2 b' r (then q b2 b3 b' z.middle (g ++ z.last) r (middle b2 b3 (Ok v) h3) h)
 
-        pub two-stops-4 : (e : Stop) → Spells q b3 g b4 (Err e) → Spells q b (marks l (formula ns i)) b4 (Err e)
-        two-stops-4 e h = on-3 b4 (Err e) (stop q b3 b4 g z.last e h)
+        pub two_stops_4 : (e : Stop) → Spells q b3 g b4 (Err e) → Spells q b (marks l (formula ns i)) b4 (Err e)
+        two_stops_4 e h = on_3 b4 (Err e) (stop q b3 b4 g z.last e h)
 
         pub two_ends : Spelt q b3 g b4 → (b5 : List ℕ) (r : Result (Unit {0}) Stop) → Appends b4 w b5 r → Spells q b (marks l (formula ns i)) b5 r
-        two_ends h4 b5 r h = on-3 b5 r (then q b3 b4 b5 g z.last r h4 (last b4 b5 r h))
+        two_ends h4 b5 r h = on_3 b5 r (then q b3 b4 b5 g z.last r h4 (last b4 b5 r h))

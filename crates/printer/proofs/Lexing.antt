@@ -55,12 +55,12 @@ no_operator : (b : ℕ) (r : List ℕ) → eqb b 69 ≡ false → eqb b 65 ≡ f
 no_operator b [] e a = refl
 no_operator b (c ∷ r) e a = rw (e, a)
 
-single-lex : (b : ℕ) (r : List ℕ) → eqb b 113 ≡ false → eqb b 69 ≡ false → eqb b 65 ≡ false → lex (b ∷ r) ≡ (single b, 1)
-single-lex b r p e a = rw p (ap (acting b) (no_operator b r e a))
+single_lex : (b : ℕ) (r : List ℕ) → eqb b 113 ≡ false → eqb b 69 ≡ false → eqb b 65 ≡ false → lex (b ∷ r) ≡ (single b, 1)
+single_lex b r p e a = rw p (ap (acting b) (no_operator b r e a))
 
 one_byte : (b : ℕ) (r : List ℕ) (o : ℕ) → eqb b 32 ≡ false → eqb b 113 ≡ false → eqb b 69 ≡ false → eqb b 65 ≡ false → Begins o (b ∷ r) (single b) r
 unfolding tokens
-one_byte b r o s p e a = (suc o, rw (s, single-lex b r p e a))
+one_byte b r o s p e a = (suc o, rw (s, single_lex b r p e a))
 
 lexed : (t : Token) → Plain t → (o : ℕ) (r : List ℕ) → Clear r → Begins o (spell t ++ r) t r
 unfolding tokens

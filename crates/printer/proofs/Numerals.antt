@@ -16,9 +16,9 @@ a_digit : (d : ℕ) → 48 ≤ d → d ≤ 57 → digit d ≡ true
 a_digit d l h = rw (le-leb 48 d l, le-leb d 57 h)
 
 -- One digit, and two.
-one-digit : (d : ℕ) (r : List ℕ) → digit d ≡ true → Clear r → numeral (d ∷ r) ≡ Some (d - 48, 1)
-one-digit d [] h g = rw h
-one-digit d (e ∷ r) h g = rw (h, g.0, and-false (leb 49 d))
+one_digit : (d : ℕ) (r : List ℕ) → digit d ≡ true → Clear r → numeral (d ∷ r) ≡ Some (d - 48, 1)
+one_digit d [] h g = rw h
+one_digit d (e ∷ r) h g = rw (h, g.0, and-false (leb 49 d))
 
 two_digits : (d e : ℕ) (r : List ℕ) → digit d ≡ true → leb 49 d ≡ true → digit e ≡ true → numeral (d ∷ e ∷ r) ≡ Some ((d - 48) * 10 + (e - 48), 2)
 two_digits d e r h k g = rw (h, k, g)
@@ -29,7 +29,7 @@ Begins o bs t r = (o' : ℕ) × (kinds (tokens 0 o bs) ≡ t ∷ kinds (tokens 0
 
 one_begins : (d : ℕ) (r : List ℕ) (o : ℕ) → digit d ≡ true → Clear r → Begins o (113 ∷ d ∷ r) (Question (d - 48)) r
 unfolding tokens
-one_begins d r o h g = (suc (suc o), ap (λ z. (asking z).0 ∷ kinds (tokens ((asking z).1 - 1) (suc o) (d ∷ r))) (one-digit d r h g))
+one_begins d r o h g = (suc (suc o), ap (λ z. (asking z).0 ∷ kinds (tokens ((asking z).1 - 1) (suc o) (d ∷ r))) (one_digit d r h g))
 
 two_begins : (d e : ℕ) (r : List ℕ) (o : ℕ) → digit d ≡ true → leb 49 d ≡ true → digit e ≡ true → Begins o (113 ∷ d ∷ e ∷ r) (Question ((d - 48) * 10 + (e - 48))) r
 unfolding tokens

@@ -3,7 +3,7 @@ use Rattle.std.proofs.Common.{◌≡◌, ℕ, suc, ◌<◌, ◌≤◌, List, [],
 use Rattle.kripke.specs.Ctl.{Formula, truth, question}
 use Rattle.kripke.specs.Nodes.{Operator, constant, asking, unary, binary, operator, applied, formulas, formula, Ordered, WellFormed, blank}
 use Rattle.kripke.specs.declared.node.Node.{Node}
-use Rattle.kripke.proofs.Tables.{formula-at}
+use Rattle.kripke.proofs.Tables.{formula_at}
 use Rattle.reader.specs.declared.token.Token.TheVariants as token
 use Rattle.reader.specs.declared.token.Sign.{Sign}
 use Rattle.reader.specs.Grammar.{Mark, mark, marks, toks, All}
@@ -94,7 +94,7 @@ module _ (q : ℕ) (ns : List Node) (w : WellFormed q ns) (i : ℕ) (li : i < le
   pub one_at : (x : _) → Written (operator n) (Before x) → OneAt ns i l x.now
   one_at x h =
       let z = one_of (operator n) (formulas ns) n.a n.b l le x h in
-      record { part = z.0; good = z.1; spells = z.2; is = ap (marks l) (formula-at q ns w i li) ∙ z.3 }
+      record { part = z.0; good = z.1; spells = z.2; is = ap (marks l) (formula_at q ns w i li) ∙ z.3 }
 
   pub two_at : (x y z : _) → Written (operator n) (Around x y z) → TwoAt ns i l x.now y.now z.now
   two_at x y z h =
@@ -107,17 +107,17 @@ module _ (q : ℕ) (ns : List Node) (w : WellFormed q ns) (i : ℕ) (li : i < le
         begins = p.4;
         links = p.5;
         ends = p.6;
-        is = ap (marks l) (formula-at q ns w i li) ∙ p.7;
+        is = ap (marks l) (formula_at q ns w i li) ∙ p.7;
       }
 
   pub truth_spells : Written (operator n) Truth → (b b1 : List ℕ) (r : Result (Unit {0}) Stop) → Appends b (spell token.Truth) b1 r → Spells q b (marks l (formula ns i)) b1 r
   truth_spells h b b1 r z =
-      subst (λ (f : Formula). Spells q b (marks l f) b1 r) (sym (formula-at q ns w i li ∙ truth_of (operator n) (formulas ns) n.a n.b h))
+      subst (λ (f : Formula). Spells q b (marks l f) b1 r) (sym (formula_at q ns w i li ∙ truth_of (operator n) (formulas ns) n.a n.b h))
       (appended q b (mark token.Truth l ∷ []) (spell token.Truth) b1 r ((le, tt), tt) refl z)
 
   pub question_spells : Written (operator n) Question → (b b1 : List ℕ) (r : Result (Unit {0}) Stop) → Appends b (spell (token.Question n.a)) b1 r
       → Spells q b (marks l (formula ns i)) b1 r
   question_spells h b b1 r z =
       let p = question_of (operator n) (formulas ns) q i n.a n.b h (w i li).1 in
-      subst (λ (f : Formula). Spells q b (marks l f) b1 r) (sym (formula-at q ns w i li ∙ p.0))
+      subst (λ (f : Formula). Spells q b (marks l f) b1 r) (sym (formula_at q ns w i li ∙ p.0))
       (appended q b (mark (token.Question n.a) l ∷ []) (spell (token.Question n.a)) b1 r ((le, p.1), tt) (sym (append-nil (spell (token.Question n.a)))) z)

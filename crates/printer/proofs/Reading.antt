@@ -10,7 +10,7 @@ use Rattle.kripke.specs.declared.refusal.Cause.TheVariants as cause
 use Rattle.reader.specs.Grammar.{marks, Sentence}
 use Rattle.reader.specs.Breaches.{Limited, Breach, long, unlimited, unexpected, unasked, deep, many}
 use Rattle.reader.specs.Table.{table}
-use Rattle.reader.proofs.Verdicts.{one-formula, spotless}
+use Rattle.reader.proofs.Verdicts.{one_formula, spotless}
 use Rattle.printer.specs.Spelling.{shown}
 use Rattle.printer.specs.Writing.{Fits, Spelt}
 use Rattle.printer.specs.Printed.{Printable, TextOf}
@@ -53,7 +53,7 @@ module _ (q : ℕ) (ns : List Node) (text : List ℕ) (t : TextOf q ns text) (pl
   many_only d p (unasked ts s j h e v l) = absurd (clear d p (omega arith) (unasked ts s j h e v l))
   many_only d p (deep ts s g ps qs h e k) = absurd (clear d p (omega arith) (deep ts s g ps qs h e k))
   many_only d p (many f is l) =
-      (refl, subst (λ (g : Formula). (places < length (table g)) ⊎ (2045 < length (table g))) (one-formula text f (root ns) is t.sentence) l)
+      (refl, subst (λ (g : Formula). (places < length (table g)) ⊎ (2045 < length (table g))) (one_formula text f (root ns) is t.sentence) l)
 
 pub read_back : ReadBack
 read_back q ns text t before after (Ok n) h =

@@ -10,12 +10,12 @@ use Rattle.printer.specs.declared.writer.Stop.TheVariants.{Limit, Memory}
 use Rattle.printer.specs.Spelling.{spell, spelt}
 use Rattle.printer.specs.Writing.{Appends, Spelt, Spells}
 
-spelt-tokens : (ts us : List Token) → spelt (ts ++ us) ≡ spelt ts ++ spelt us
-spelt-tokens [] us = refl
-spelt-tokens (t ∷ ts) us = ap (λ l. spell t ++ l) (spelt-tokens ts us) ∙ sym (append_assoc (spell t) (spelt ts) (spelt us))
+spelt_tokens : (ts us : List Token) → spelt (ts ++ us) ≡ spelt ts ++ spelt us
+spelt_tokens [] us = refl
+spelt_tokens (t ∷ ts) us = ap (λ l. spell t ++ l) (spelt_tokens ts us) ∙ sym (append_assoc (spell t) (spelt ts) (spelt us))
 
 spelt-append : (ms ns : List Mark) → spelt (toks (ms ++ ns)) ≡ spelt (toks ms) ++ spelt (toks ns)
-spelt-append ms ns = ap spelt (toks-append ms ns) ∙ spelt-tokens (toks ms) (toks ns)
+spelt-append ms ns = ap spelt (toks-append ms ns) ∙ spelt_tokens (toks ms) (toks ns)
 
 length-spelt : (ms ns : List Mark) → length (spelt (toks (ms ++ ns))) ≡ length (spelt (toks ms)) + length (spelt (toks ns))
 length-spelt ms ns = ap length (spelt-append ms ns) ∙ length-append (spelt (toks ms)) (spelt (toks ns))

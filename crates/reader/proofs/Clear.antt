@@ -45,13 +45,13 @@ module _ (c : ℕ) (f : Formula) (ms w : List Mark) (al : All c ms) (e : ms ++ w
       (append_assoc z.0 (mark t z.1 ∷ []) (z.2 ++ w) ∙ sym (append_assoc z.0 (mark t z.1 ∷ z.2) w) ∙ ap (λ l. l ++ w) (sym z.3) ∙ e)
       (append_assoc ps (mark t 65 ∷ []) qs ∙ k)
       (toks-append z.0 (mark t z.1 ∷ []) ∙ ap (λ l. l ++ (t ∷ [])) (z.4 ∙ sym h) ∙ sym (toks-append ps (mark t 65 ∷ []))) in
-      let level : z.1 ≡ 65 = last-level z.0 ps z.1 65 same in
+      let level : z.1 ≡ 65 = last_level z.0 ps z.1 65 same in
       omega (arith, (limited z).0)
     where
-      last-level : (a b : List Mark) (i j : ℕ) → a ++ (mark t i ∷ []) ≡ b ++ (mark t j ∷ []) → i ≡ j
-      last-level [] [] i j e = cc
-      last-level [] (x ∷ []) i j e = clash cc
-      last-level [] (x ∷ y ∷ b) i j e = clash cc
-      last-level (x ∷ []) [] i j e = clash cc
-      last-level (x ∷ y ∷ a) [] i j e = clash cc
-      last-level (x ∷ a) (y ∷ b) i j e = last-level a b i j (cc)
+      last_level : (a b : List Mark) (i j : ℕ) → a ++ (mark t i ∷ []) ≡ b ++ (mark t j ∷ []) → i ≡ j
+      last_level [] [] i j e = cc
+      last_level [] (x ∷ []) i j e = clash cc
+      last_level [] (x ∷ y ∷ b) i j e = clash cc
+      last_level (x ∷ []) [] i j e = clash cc
+      last_level (x ∷ y ∷ a) [] i j e = clash cc
+      last_level (x ∷ a) (y ∷ b) i j e = last_level a b i j (cc)

@@ -76,30 +76,30 @@ module _ (c l : ℕ) (o : Opening) (s s1 s2 s3 s4 s5 s6 : Stream) (b : Begun c l
     past_open : (e : Refusal) → Refused (Arguments (suc l) o) c s2 e → Refused (Form l) c s e
     past_open e z = head_refused c l s s1 (head.Binary o) e b (in_second (Opened o) (Arguments (suc l) o) (opened_unique o) c s1 s2 e x hx gx z)
 
-    pub first-fails : (e : Refusal) → Refused (Form (suc l)) c s2 e → Refused (Form l) c s e
-    first-fails e z = past_open e (in_first (Form (suc l)) (Second (suc l) o) c s2 e z)
+    pub first_fails : (e : Refusal) → Refused (Form (suc l)) c s2 e → Refused (Form l) c s e
+    first_fails e z = past_open e (in_first (Form (suc l)) (Second (suc l) o) c s2 e z)
 
     module _ (f : Formula) (hf : After s2 (toks (marks (suc l) f)) s3) (gf : All c (marks (suc l) f)) where
       past_first : (e : Refusal) → Refused (Second (suc l) o) c s3 e → Refused (Form l) c s e
       past_first e z = past_open e (in_second (Form (suc l)) (Second (suc l) o) (λ g. unique g (suc l)) c s2 s3 e f hf gf z)
 
-      pub middle-fails : (e : Refusal) → Refused (Middle o) c s3 e → Refused (Form l) c s e
-      middle-fails e z = past_first e (in_first (Middle o) (Last (suc l) o) c s3 e z)
+      pub middle_fails : (e : Refusal) → Refused (Middle o) c s3 e → Refused (Form l) c s e
+      middle_fails e z = past_first e (in_first (Middle o) (Last (suc l) o) c s3 e z)
 
       module _ (m : (Middle o).A) (hm : After s3 (toks ((Middle o).mk m)) s4) (gm : All c ((Middle o).mk m)) where
-        past-middle : (e : Refusal) → Refused (Last (suc l) o) c s4 e → Refused (Form l) c s e
-        past-middle e z = past_first e (in_second (Middle o) (Last (suc l) o) (middle_unique o) c s3 s4 e m hm gm z)
+        past_middle : (e : Refusal) → Refused (Last (suc l) o) c s4 e → Refused (Form l) c s e
+        past_middle e z = past_first e (in_second (Middle o) (Last (suc l) o) (middle_unique o) c s3 s4 e m hm gm z)
 
-        pub second-fails : (e : Refusal) → Refused (Form (suc l)) c s4 e → Refused (Form l) c s e
-        second-fails e z = past-middle e (in_first (Form (suc l)) (Signed (closing o)) c s4 e z)
+        pub second_fails : (e : Refusal) → Refused (Form (suc l)) c s4 e → Refused (Form l) c s e
+        second_fails e z = past_middle e (in_first (Form (suc l)) (Signed (closing o)) c s4 e z)
 
         module _ (g : Formula) (hg : After s4 (toks (marks (suc l) g)) s5) (gg : All c (marks (suc l) g)) where
-          pub close-fails : (e : Refusal) → Refused (Signed (closing o)) c s5 e → Refused (Form l) c s e
-          close-fails e z = past-middle e (in_second (Form (suc l)) (Signed (closing o)) (λ f. unique f (suc l)) c s4 s5 e g hg gg z)
+          pub close_fails : (e : Refusal) → Refused (Signed (closing o)) c s5 e → Refused (Form l) c s e
+          close_fails e z = past_middle e (in_second (Form (suc l)) (Signed (closing o)) (λ f. unique f (suc l)) c s4 s5 e g hg gg z)
 
-          pub joined-taken : (y : Unit {0}) → After s5 (toks ((Signed (closing o)).mk y)) s6 → All c ((Signed (closing o)).mk y)
+          pub joined_taken : (y : Unit {0}) → After s5 (toks ((Signed (closing o)).mk y)) s6 → All c ((Signed (closing o)).mk y)
               → After s (toks (marks l (joined o m f g))) s6 × All c (marks l (joined o m f g))
-          joined-taken y hy gy =
+          joined_taken y hy gy =
               let n : ℕ = suc l in
               let p = both_taken (Form n) (Signed (closing o)) c s4 s5 s6 g y hg gg hy gy in
               let q = both_taken (Middle o) (Last n o) c s3 s4 s6 m (g, y) hm gm p.0 p.1 in

@@ -36,19 +36,19 @@ built n (head.Question j) x = question j
 built n (head.Unary u) x = applied u x
 built n (head.Binary o) x = joined o x.1.1.0 x.1.0 x.1.1.1.0
 
-applied-marks : (l : ℕ) (u : Unary) (f : Formula) → marks l (applied u f) ≡ mark (token.Unary u) l ∷ marks (suc l) f
-applied-marks l unary.Not f = refl
-applied-marks l unary.EX f = refl
-applied-marks l unary.AX f = refl
-applied-marks l unary.EF f = refl
-applied-marks l unary.AF f = refl
-applied-marks l unary.EG f = refl
-applied-marks l unary.AG f = refl
+applied_marks : (l : ℕ) (u : Unary) (f : Formula) → marks l (applied u f) ≡ mark (token.Unary u) l ∷ marks (suc l) f
+applied_marks l unary.Not f = refl
+applied_marks l unary.EX f = refl
+applied_marks l unary.AX f = refl
+applied_marks l unary.EF f = refl
+applied_marks l unary.AF f = refl
+applied_marks l unary.EG f = refl
+applied_marks l unary.AG f = refl
 
 pub built_marks : (l : ℕ) (h : Head) (x : (Tail (suc l) h).A) → marks l (built (suc l) h x) ≡ mark (opening h) l ∷ (Tail (suc l) h).mk x
 built_marks l head.Truth x = refl
 built_marks l (head.Question j) x = refl
-built_marks l (head.Unary u) x = applied-marks l u x
+built_marks l (head.Unary u) x = applied_marks l u x
 built_marks l (head.Binary Pair) (a, (f, (conj, (g, b)))) = refl
 built_marks l (head.Binary Pair) (a, (f, (disj, (g, b)))) = refl
 built_marks l (head.Binary (Until Exists)) x = refl

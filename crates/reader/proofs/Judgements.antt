@@ -13,8 +13,8 @@ use Rattle.reader.specs.Breaches.{Breach, long, unlimited, unexpected, unasked, 
 use Rattle.reader.specs.Reading.{Parsed}
 use Rattle.reader.proofs.Tables.{root_is}
 use Rattle.reader.proofs.Lawful.{well_formed}
-use Rattle.reader.proofs.Places.{laid-whole}
-use Rattle.reader.proofs.Verdicts.{one-formula, spotless, clean, not_both}
+use Rattle.reader.proofs.Places.{laid_whole}
+use Rattle.reader.proofs.Verdicts.{one_formula, spotless, clean, not_both}
 
 -- What a refusal is made of.
 abbrev Is : Refusal → Cause → ℕ → Type 0
@@ -57,7 +57,7 @@ module _ (text : List ℕ) (q places : ℕ) (lim : Limited text q) (f : Formula)
       same p n e (inr (a, inr b)) = omega (arith, b.1)
 
       least : (d : Cause) (p : ℕ) → Sooner d p cause.ManyNodes (length (table f)) → Breach text q places d p → ⊥
-      least d p so (many g i l) = same (length (table g)) (length (table f)) (ap (λ x. length (table x)) (one-formula text g f i is)) so
+      least d p so (many g i l) = same (length (table g)) (length (table f)) (ap (λ x. length (table x)) (one_formula text g f i is)) so
       least d p so (long g) = spotless text q places lim f is wi d p (omega arith) (long g)
       least d p so (unlimited g) = spotless text q places lim f is wi d p (omega arith) (unlimited g)
       least d p so (unexpected ts s g v w) = spotless text q places lim f is wi d p (omega arith) (unexpected ts s g v w)
@@ -70,7 +70,7 @@ pub read_so : (text : List ℕ) (q : ℕ) (before after : List Node) (f : Formul
 read_so text q before after f (Err e) w z = absurd (not_both text q (length before) w.limited e z f w.sentence w.within)
 read_so text q before after f (Ok m) w z =
     let g : Formula = z.formula in
-    let same : length (table f) ≡ length (table g) = ap (λ x. length (table x)) (one-formula text f g w.sentence z.sentence) in
+    let same : length (table f) ≡ length (table g) = ap (λ x. length (table x)) (one_formula text f g w.sentence z.sentence) in
     let l = w.room in
     let k = w.few in (
       (
@@ -79,9 +79,9 @@ read_so text q before after f (Ok m) w z =
           formula = g;
           sentence = z.sentence;
           within = z.within;
-          only = λ h i. one-formula text h g i z.sentence;
+          only = λ h i. one_formula text h g i z.sentence;
           counted = z.counted;
-          written = z.written ∙ laid-whole before 0 (table g) (omega arith)
+          written = z.written ∙ laid_whole before 0 (table g) (omega arith)
               ∙ (let e : 0 + length (table g) ≡ m = omega (arith, z.counted) in ap (λ (k : ℕ). table g ++ drop k before) e);
           rooted = root_is g;
           ordered = well_formed q g z.within;

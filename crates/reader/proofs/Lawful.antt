@@ -16,7 +16,7 @@ use Rattle.reader.specs.Grammar.{Mark, mark, marks, All, Within}
 use Rattle.reader.specs.Phrases.{conj, disj, Opened, Middle, closing, applied, applied_code, joined, joined_code}
 use Rattle.reader.specs.Table.{node, nodes, table}
 use Rattle.reader.proofs.Heads.{built_marks, induction}
-use Rattle.reader.proofs.Tables.{applied-nodes, joined-nodes, some-node}
+use Rattle.reader.proofs.Tables.{applied_nodes, joined_nodes, some_node}
 
 all_left : (c : ℕ) (a b : List Mark) → All c (a ++ b) → All c a
 all_left c [] b h = tt
@@ -63,8 +63,8 @@ Lawful-from q f = (l i : ℕ) → All q (marks l f) → Ordered-from q i (nodes 
 
 lawful_applied : (q : ℕ) (u : Unary) (f : Formula) → Lawful-from q f → Lawful-from q (applied u f)
 lawful_applied q u f h l i al =
-    let some = some-node f i in
-    subst (Ordered-from q i) (sym (applied-nodes i u f))
+    let some = some_node f i in
+    subst (Ordered-from q i) (sym (applied_nodes i u f))
     (append_ordered q i (nodes i f) (node (applied_code u) (i + length (nodes i f) - 1) 0 ∷ []) (h (suc l) i (subst (All q) (built_marks l (head.Unary u) f) al).1)
     (one_ordered q (i + length (nodes i f)) _ (applied_lawful q (i + length (nodes i f)) _ u (omega arith))))
 
@@ -73,11 +73,11 @@ lawful_joined q o m f g h k l i al =
     let ns : List Node = nodes i f in
     let ms : List Node = nodes (i + length ns) g in
     let n : Node = node (joined_code o m) (i + length ns - 1) (i + length ns + length ms - 1) in
-    let some = some-node f i in
-    let more = some-node g (i + length ns) in
+    let some = some_node f i in
+    let more = some_node g (i + length ns) in
     let after = all_right q ((Opened o).mk (Opened o).any) _ (subst (All q) (built_marks l (head.Binary o) ((Opened o).any, (f, (m, (g, tt))))) al).1 in
     let second = all_right q ((Middle o).mk m) (marks (suc l) g ++ (mark (token.Sign (closing o)) 0 ∷ [])) (all_right q (marks (suc l) f) _ after) in
-    subst (Ordered-from q i) (sym (joined-nodes i o m f g))
+    subst (Ordered-from q i) (sym (joined_nodes i o m f g))
     (append_ordered q i ns (ms ++ (n ∷ [])) (h (suc l) i (all_left q (marks (suc l) f) _ after))
     (append_ordered q (i + length ns) ms (n ∷ []) (k (suc l) (i + length ns) (all_left q (marks (suc l) g) (mark (token.Sign (closing o)) 0 ∷ []) second))
     (one_ordered q (i + length ns + length ms) n (joined_lawful q (i + length ns + length ms) _ _ o m (omega arith) (omega arith)))))

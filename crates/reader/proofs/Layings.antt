@@ -8,7 +8,7 @@ use Rattle.reader.specs.declared.head.Opening.{Opening}
 use Rattle.reader.specs.Table.{node, two, nodes, laid}
 use Rattle.reader.specs.Phrases.{Middle, joined, joined_code, applied, applied_code}
 use Rattle.reader.specs.Reading.{Laying}
-use Rattle.reader.proofs.Tables.{applied-nodes, joined-nodes}
+use Rattle.reader.proofs.Tables.{applied_nodes, joined_nodes}
 use Rattle.reader.proofs.Places.{laid-append, laid_one}
 
 pub leaf_laid : (i : ℕ) (before : List Node) (f : Formula) (n : Node) (own i' : ℕ) (after : List Node) → nodes i f ≡ n ∷ []
@@ -19,23 +19,23 @@ leaf_laid i before f n own i' after e o u w = record {
   written = w ∙ sym (laid_one before i n) ∙ ap (laid before i) (sym e);
 }
 
-pub applied-laid : (i : ℕ) (p0 : List Node) (u : Unary) (f : Formula) (a i1 : ℕ) (p1 : List Node) (code own i2 : ℕ) (p2 : List Node) → Laying i p0 f a i1 p1
+pub applied_laid : (i : ℕ) (p0 : List Node) (u : Unary) (f : Formula) (a i1 : ℕ) (p1 : List Node) (code own i2 : ℕ) (p2 : List Node) → Laying i p0 f a i1 p1
     → code ≡ applied_code u → own ≡ i1 → i2 ≡ i1 + 1 → p2 ≡ set p1 i1 (node code a 0) → Laying i p0 (applied u f) own i2 p2
-applied-laid i p0 u f a i1 p1 code own i2 p2 z k o g w =
+applied_laid i p0 u f a i1 p1 code own i2 p2 z k o g w =
     let ns : List Node = nodes i f in
     let n : Node = node (applied_code u) (i + length ns - 1) 0 in
     let at : a ≡ i + length ns - 1 = omega (arith, z.last, z.counted) in
     record {
       last = omega arith;
-      counted = omega (arith, z.counted, ap length (applied-nodes i u f), length-append ns (n ∷ []));
+      counted = omega (arith, z.counted, ap length (applied_nodes i u f), length-append ns (n ∷ []));
       written = w ∙ ap (λ (x : ℕ). set p1 i1 (node x a 0)) k ∙ ap (λ (x : ℕ). set p1 i1 (node (applied_code u) x 0)) at ∙ ap (λ (x : ℕ). set p1 x n) z.counted
-          ∙ ap (λ (ps : List Node). set ps (i + length ns) n) z.written ∙ sym (laid_one (laid p0 i ns) (i + length ns) n) ∙ sym (laid-append p0 i ns (n ∷ [])) ∙ ap (laid p0 i) (sym (applied-nodes i u f));
+          ∙ ap (λ (ps : List Node). set ps (i + length ns) n) z.written ∙ sym (laid_one (laid p0 i ns) (i + length ns) n) ∙ sym (laid-append p0 i ns (n ∷ [])) ∙ ap (laid p0 i) (sym (applied_nodes i u f));
     }
 
 module _ (i : ℕ) (p0 : List Node) (o : Opening) (m : (Middle o).A) (f g : Formula) (a i1 : ℕ) (p1 : List Node) (b i2 : ℕ) (p2 : List Node)
     (code own i3 : ℕ) (p3 : List Node) (z : Laying i p0 f a i1 p1) (y : Laying i1 p1 g b i2 p2) where
-  pub joined-laid : code ≡ joined_code o m → own ≡ i2 → i3 ≡ i2 + 1 → p3 ≡ set p2 i2 (node code a b) → Laying i p0 (joined o m f g) own i3 p3
-  joined-laid k q h w = go (nodes i f) (nodes (i + length (nodes i f)) g) (joined-nodes i o m f g) z.counted z.written
+  pub joined_laid : code ≡ joined_code o m → own ≡ i2 → i3 ≡ i2 + 1 → p3 ≡ set p2 i2 (node code a b) → Laying i p0 (joined o m f g) own i3 p3
+  joined_laid k q h w = go (nodes i f) (nodes (i + length (nodes i f)) g) (joined_nodes i o m f g) z.counted z.written
       (ap (λ (n : ℕ). i1 + length (nodes n g)) z.counted) (ap (λ (n : ℕ). laid p1 i1 (nodes n g)) z.counted)
     where
       go : (ns ms : List Node) → nodes i (joined o m f g) ≡ two (joined_code o m) i ns ms → i1 ≡ i + length ns → p1 ≡ laid p0 i ns

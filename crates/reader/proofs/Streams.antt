@@ -80,10 +80,10 @@ after-append s [] b s1 s2 e h = subst (λ (z : Stream). After z b s2) (sym e) h
 after-append (done o) (t ∷ a) b s1 s2 e h = absurd e
 after-append (next o u s) (t ∷ a) b s1 s2 e h = (e.0, after-append s a b s1 s2 e.1 h)
 
-pub after-kinds : (s : Stream) (ts : List Token) (s1 : Stream) → After s ts s1 → kinds s ≡ ts ++ kinds s1
-after-kinds s [] s1 h = ap kinds h
-after-kinds (done o) (t ∷ ts) s1 h = absurd h
-after-kinds (next o u s) (t ∷ ts) s1 h = ap (λ z. z ∷ kinds s) h.0 ∙ ap (λ l. t ∷ l) (after-kinds s ts s1 h.1)
+pub after_kinds : (s : Stream) (ts : List Token) (s1 : Stream) → After s ts s1 → kinds s ≡ ts ++ kinds s1
+after_kinds s [] s1 h = ap kinds h
+after_kinds (done o) (t ∷ ts) s1 h = absurd h
+after_kinds (next o u s) (t ∷ ts) s1 h = ap (λ z. z ∷ kinds s) h.0 ∙ ap (λ l. t ∷ l) (after_kinds s ts s1 h.1)
 
 pub after_one : (s : Stream) (ts : List Token) (s1 s2 : Stream) → After s ts s1 → After s ts s2 → s1 ≡ s2
 after_one s [] s1 s2 h g = sym h ∙ g

@@ -15,15 +15,15 @@ use Rattle.reader.specs.Breaches.{Breach, long, unlimited, unexpected, unasked, 
 use Rattle.reader.specs.Phrases.{Exact, Form, Why, Refused}
 use Rattle.reader.specs.Phrases as why
 use Rattle.reader.specs.Reading.{Text}
-use Rattle.reader.proofs.Streams.{Real, Rising, rising, rising_after, after-kinds, after_one, begins}
+use Rattle.reader.proofs.Streams.{Real, Rising, rising, rising_after, after_kinds, after_one, begins}
 use Rattle.reader.proofs.Phrases.{toks-append, all_append, in_second, nothing_taken}
 use Rattle.reader.proofs.Steps.{Tells}
 use Rattle.reader.proofs.Heads.{unique}
 use Rattle.reader.proofs.Clear.{expected, not_unasked, not_deep}
 use Rattle.reader.proofs.Orders.{compare, nearer}
 
-pub one-formula : (text : List ℕ) (f g : Formula) → Sentence text f → Sentence text g → f ≡ g
-one-formula text f g e h =
+pub one_formula : (text : List ℕ) (f g : Formula) → Sentence text f → Sentence text g → f ≡ g
+one_formula text f g e h =
     (unique f 1 g (token.End ∷ []) (token.End ∷ []) (sym (toks-append (marks 1 f) (mark token.End 0 ∷ [])) ∙ sym e ∙ h ∙ toks-append (marks 1 g) (mark token.End 0 ∷ []))).0
 
 -- A sentence within the limits breaks no rule but that of its nodes.
@@ -32,7 +32,7 @@ module _ (text : List ℕ) (q places : ℕ) (lim : Limited text q) (f : Formula)
   good = all_append q (marks 1 f) (mark token.End 0 ∷ []) wi ((omega arith, tt), tt)
 
   met : (ts : List Token) (s : Stream) → After (tokens 0 0 text) ts s → toks (whole f) ≡ ts ++ (first s ∷ (begins s).0)
-  met ts s h = sym is ∙ after-kinds (tokens 0 0 text) ts s h ∙ ap (λ l. ts ++ l) (begins s).1
+  met ts s h = sym is ∙ after_kinds (tokens 0 0 text) ts s h ∙ ap (λ l. ts ++ l) (begins s).1
 
   pub spotless : (d : Cause) (p : ℕ) → number_of d < 13 → Breach text q places d p → ⊥
   spotless d p n (long h) = omega (arith, lim.short)
@@ -44,7 +44,7 @@ module _ (text : List ℕ) (q places : ℕ) (lim : Limited text q) (f : Formula)
 
   pub clean : length (table f) ≤ places → length (table f) ≤ 2045 → Clean (Breach text q places)
   clean a b d p (many g h l) =
-      let e : length (table f) ≡ length (table g) = ap (λ x. length (table x)) (one-formula text f g is h) in
+      let e : length (table f) ≡ length (table g) = ap (λ x. length (table x)) (one_formula text f g is h) in
       ⊎_elim (λ z. omega arith) (λ z. omega arith) l
   clean a b d p (long h) = spotless d p (omega arith) (long h)
   clean a b d p (unlimited h) = spotless d p (omega arith) (unlimited h)
@@ -152,7 +152,7 @@ ends m (next o t s) r e = absurd (subst Real e r.1)
 pub sentence : (text : List ℕ) (f : Formula) (s : Stream) → After (tokens 0 0 text) (toks (marks 1 f)) s → first s ≡ token.End → Sentence text f
 sentence text f s h e =
     let z = rising_after 0 (tokens 0 0 text) (toks (marks 1 f)) s h (rising 0 0 text) in
-    after-kinds (tokens 0 0 text) (toks (marks 1 f)) s h ∙ ap (λ l. toks (marks 1 f) ++ l) (ends z.0 s z.2 e) ∙ sym (toks-append (marks 1 f) (mark token.End 0 ∷ []))
+    after_kinds (tokens 0 0 text) (toks (marks 1 f)) s h ∙ ap (λ l. toks (marks 1 f) ++ l) (ends z.0 s z.2 e) ∙ sym (toks-append (marks 1 f) (mark token.End 0 ∷ []))
 
 pub goes_past : (text : List ℕ) (q : ℕ) (f : Formula) (s : Stream) (e : Refusal) → After (tokens 0 0 text) (toks (marks 1 f)) s → All q (marks 1 f)
     → (first s ≡ token.End → ⊥) → Tells s cause.Unexpected e → Refused Text q (tokens 0 0 text) e

@@ -25,8 +25,8 @@ module _ (p q : Partition) (test : Node) (x : ℕ) (st : Started p q test x) whe
   same_class : (t : ℕ) → class_of q t ≡ class_of p t
   same_class t = ap (λ (l : List ℕ). get_or l t 0) st.class
 
-  same-formula : (t : ℕ) → t < p.states → class_formula q t ≡ class_formula p t
-  same-formula t h =
+  same_formula : (t : ℕ) → t < p.states → class_formula q t ≡ class_formula p t
+  same_formula t h =
       ap (λ (l : List ℕ). formula (vec_items q.nodes) (get_or l (class_of q t) 0)) st.node
       ∙ ap (λ (c : ℕ). formula (vec_items q.nodes) (get_or p.node c 0)) (same_class t)
       ∙ st.begun.extends.same (get_or p.node (class_of p t) 0) (p.here t h)
@@ -34,13 +34,13 @@ module _ (p q : Partition) (test : Node) (x : ℕ) (st : Started p q test x) whe
   start_exact : (v : Formula → ℕ → Bool) → Exact v p → Exact v q
   start_exact v h t s ht hs =
       let e : q.states ≡ p.states = st.states in
-      ap (λ (f : Formula). v f s) (same-formula t (omega (arith, e, ht))) ∙ h t s (omega (arith, e, ht)) (omega (arith, e, hs))
+      ap (λ (f : Formula). v f s) (same_formula t (omega (arith, e, ht))) ∙ h t s (omega (arith, e, ht)) (omega (arith, e, hs))
       ∙ ap (λ (c : ℕ). eqb c (class_of p t)) (sym (same_class s)) ∙ ap (λ (c : ℕ). eqb (class_of q s) c) (sym (same_class t))
 
   start_shallow : (d : ℕ) → Shallow d p → Shallow d q
   start_shallow d h t ht =
       let l : t < p.states = omega (arith, st.states, ht) in
-      subst (λ (f : Formula). nesting f ≤ d) (sym (same-formula t l)) (h t l)
+      subst (λ (f : Formula). nesting f ≤ d) (sym (same_formula t l)) (h t l)
 
   start_stands : (v : Formula → ℕ → Bool) → Boolean v → (row : List Bool)
       → ((t : ℕ) → t < p.states → v (made (formulas (vec_items p.nodes)) test) t ≡ at row t) → Stands v q x row
@@ -57,15 +57,15 @@ module _ (p q : Partition) (test : Node) (x : ℕ) (st : Started p q test x) whe
   }
 
   module _ (r : Partition) (s : ℕ) (row : List Bool) (o : Odd p s row) (d : Parted q r x s row) where
-    pub start-scanned : Scanned q r x row (s + 1)
-    start-scanned = scanned_step q q r x row s st.begun.inside (scanned_start q x row s (start_odd s row o).first) (start_odd s row o) d
+    pub start_scanned : Scanned q r x row (s + 1)
+    start_scanned = scanned_step q q r x row s st.begun.inside (scanned_start q x row s (start_odd s row o).first) (start_odd s row o) d
 
-    pub start-few : Few p → Few r
-    start-few f = omega (arith, f, d.count, d.nodes, st.begun.count, st.count)
+    pub start_few : Few p → Few r
+    start_few f = omega (arith, f, d.count, d.nodes, st.begun.count, st.count)
 
     pub divided : (z : Partition) → Scanned r z x row r.states → Divided p z test row
     divided z k =
-        let h : Scanned q z x row r.states = scanned_trans q r z x row (s + 1) r.states st.begun.inside start-scanned k in
+        let h : Scanned q z x row r.states = scanned_trans q r z x row (s + 1) r.states st.begun.inside start_scanned k in
         let e : r.states ≡ p.states = d.keeps.states ∙ st.states in
         let on : (t : ℕ) → t < p.states → t < q.states = λ t l. omega (arith, l, st.states) in
         record {

@@ -6,7 +6,7 @@ use Rattle.std.proofs.lemmas.List.{get_or_append_left, get_or_push, length_push}
 use Rattle.kripke.specs.Ctl.{Formula, NextOnly}
 use Rattle.kripke.specs.Nodes.{constant, operators, applied, made, formulas, formula, Ordered, LawfulNode, WellFormed, blank}
 use Rattle.kripke.specs.declared.node.Node.{Node}
-use Rattle.kripke.proofs.Tables.{formula-at}
+use Rattle.kripke.proofs.Tables.{formula_at}
 use Rattle.refine.specs.Growth.{next_node, Orderly}
 use Rattle.refine.proofs.Somes.{T-yes}
 
@@ -60,7 +60,7 @@ well_formed q ns h i l = lawful_shape q i (get_or ns i blank) (shape q i (get_or
 
 -- Node i is made of the formulas of the table.
 pub node_is : (q : ℕ) (ns : List Node) → Orderly q ns → (i : ℕ) → i < length ns → formula ns i ≡ made (formulas ns) (get_or ns i blank)
-node_is q ns h i l = formula-at q ns (well_formed q ns h) i l
+node_is q ns h i l = formula_at q ns (well_formed q ns h) i l
 
 -- What a node of a known code makes.
 pub made_at : (fs : List Formula) (n : Node) (k : ℕ) → n.code ≡ k → made fs n ≡ applied (get_or operators k constant) fs n.a n.b

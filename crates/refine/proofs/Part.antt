@@ -11,7 +11,7 @@ use Rattle.refine.specs.Growth.{Orderly, Extends, Boolean, Conjoined}
 use Rattle.refine.specs.Steps.{at, moved, Odd}
 use Rattle.refine.specs.declared.partition.Partition.{Partition}
 use Rattle.refine.proofs.Grown.{extends_trans}
-use Rattle.refine.proofs.Step.{low_after, led_after, exact-after, each_after, leaders-after, cn, apart}
+use Rattle.refine.proofs.Step.{low_after, led_after, exact_after, each_after, leaders_after, cn, apart}
 
 beq_true : (b : Bool) → beq b true ≡ b
 beq_true true = refl
@@ -155,9 +155,9 @@ module _ (k : Cut) where
   stay_same : formula k.ms k.stay ≡ formula k.m1 k.stay
   stay_same = k.leave_made.extends.same k.stay k.stay_made.inside
 
-  same-formula : (t : ℕ) → t < k.n → (of k.cl t ≡ c → ⊥) → (of k.cl t ≡ k.s → ⊥)
+  same_formula : (t : ℕ) → t < k.n → (of k.cl t ≡ c → ⊥) → (of k.cl t ≡ k.s → ⊥)
       → formula k.ms (get_or nd' (of k.cl t) 0) ≡ formula k.ns (get_or k.nd (of k.cl t) 0)
-  same-formula t h p q = ap (λ i. formula k.ms i) (node_other (of k.cl t) p q) ∙ part_extends.same (get_or k.nd (of k.cl t) 0) (k.here t h)
+  same_formula t h p q = ap (λ i. formula k.ms i) (node_other (of k.cl t) p q) ∙ part_extends.same (get_or k.nd (of k.cl t) 0) (k.here t h)
 
   pub part_low : Low k.n k.new
   part_low = low_after k.n (of k.cl) (of k.new) y c k.s k.low k.led k.state refl y0 k.odd first' k.is
@@ -172,7 +172,7 @@ module _ (k : Cut) where
 
   pub part_leaders : leaders k.new k.n ≡ suc (leaders k.cl k.n)
   unfolding leaders
-  part_leaders = leaders-after k.n (of k.cl) (of k.new) y c k.s k.low k.led k.state refl y0 k.odd first' k.is
+  part_leaders = leaders_after k.n (of k.cl) (of k.new) y c k.s k.low k.led k.state refl y0 k.odd first' k.is
 
   pub part_shallow : (d : ℕ) → nesting (formula k.ns k.x) ≤ d → nesting (formula k.ns (suc k.x)) ≤ d
       → ((t : ℕ) → t < k.n → nesting (formula k.ns (get_or k.nd (of k.cl t) 0)) ≤ d)
@@ -180,33 +180,33 @@ module _ (k : Cut) where
   part_shallow d py pn old = each_after k.n (of k.cl) (of k.new) y c k.s k.low k.led k.state refl y0 k.odd first' k.is
       (λ e. nesting (formula k.ms (get_or nd' e 0)) ≤ d)
       (subst (λ (i : ℕ). nesting (formula k.ms i) ≤ d) (sym node_c) (subst (λ (f : Formula). nesting f ≤ d) (sym stay_same)
-      (k.stay_made.nests d (old k.s k.state) (go-stay (at k.row k.s) k.stays_is))))
+      (k.stay_made.nests d (old k.s k.state) (go_stay (at k.row k.s) k.stays_is))))
       (subst (λ (i : ℕ). nesting (formula k.ms i) ≤ d) (sym node_s)
       (k.leave_made.nests d
       (subst (λ (f : Formula). nesting f ≤ d) (sym (k.stay_made.extends.same (get_or k.nd c 0) whole_in)) (old k.s k.state))
-      (subst (λ (f : Formula). nesting f ≤ d) (sym (k.stay_made.extends.same k.leaves leaves_in)) (go-leave (at k.row k.s) k.leaves_is))))
-      (λ t h p q. subst (λ (f : Formula). nesting f ≤ d) (sym (same-formula t h p q)) (old t h))
+      (subst (λ (f : Formula). nesting f ≤ d) (sym (k.stay_made.extends.same k.leaves leaves_in)) (go_leave (at k.row k.s) k.leaves_is))))
+      (λ t h p q. subst (λ (f : Formula). nesting f ≤ d) (sym (same_formula t h p q)) (old t h))
     where
-      go-stay : (b : Bool) → k.stays ≡ cond b (suc k.x) k.x → nesting (formula k.ns k.stays) ≤ d
-      go-stay true e = subst (λ (i : ℕ). nesting (formula k.ns i) ≤ d) (sym e) pn
-      go-stay false e = subst (λ (i : ℕ). nesting (formula k.ns i) ≤ d) (sym e) py
+      go_stay : (b : Bool) → k.stays ≡ cond b (suc k.x) k.x → nesting (formula k.ns k.stays) ≤ d
+      go_stay true e = subst (λ (i : ℕ). nesting (formula k.ns i) ≤ d) (sym e) pn
+      go_stay false e = subst (λ (i : ℕ). nesting (formula k.ns i) ≤ d) (sym e) py
 
-      go-leave : (b : Bool) → k.leaves ≡ cond b k.x (suc k.x) → nesting (formula k.ns k.leaves) ≤ d
-      go-leave true e = subst (λ (i : ℕ). nesting (formula k.ns i) ≤ d) (sym e) py
-      go-leave false e = subst (λ (i : ℕ). nesting (formula k.ns i) ≤ d) (sym e) pn
+      go_leave : (b : Bool) → k.leaves ≡ cond b k.x (suc k.x) → nesting (formula k.ns k.leaves) ≤ d
+      go_leave true e = subst (λ (i : ℕ). nesting (formula k.ns i) ≤ d) (sym e) py
+      go_leave false e = subst (λ (i : ℕ). nesting (formula k.ns i) ≤ d) (sym e) pn
 
   module _ (v : Formula → ℕ → Bool) (w : Boolean v)
       (ys : (t : ℕ) → t < k.n → v (formula k.ns k.x) t ≡ at k.row t)
       (ns' : (t : ℕ) → t < k.n → v (formula k.ns (suc k.x)) t ≡ not (at k.row t)) where
-    leaves-y : (t : ℕ) → t < k.n → v (formula k.ns k.leaves) t ≡ y t
-    leaves-y t h = go (at k.row k.s) k.leaves_is
+    leaves_y : (t : ℕ) → t < k.n → v (formula k.ns k.leaves) t ≡ y t
+    leaves_y t h = go (at k.row k.s) k.leaves_is
       where
         go : (b : Bool) → k.leaves ≡ cond b k.x (suc k.x) → v (formula k.ns k.leaves) t ≡ beq (at k.row t) b
         go true e = ap (λ i. v (formula k.ns i) t) e ∙ ys t h ∙ sym (beq_true (at k.row t))
         go false e = ap (λ i. v (formula k.ns i) t) e ∙ ns' t h ∙ sym (beq_false (at k.row t))
 
-    stays-y : (t : ℕ) → t < k.n → v (formula k.ns k.stays) t ≡ not (y t)
-    stays-y t h = go (at k.row k.s) k.stays_is
+    stays_y : (t : ℕ) → t < k.n → v (formula k.ns k.stays) t ≡ not (y t)
+    stays_y t h = go (at k.row k.s) k.stays_is
       where
         go : (b : Bool) → k.stays ≡ cond b (suc k.x) k.x → v (formula k.ns k.stays) t ≡ not (beq (at k.row t) b)
         go true e = ap (λ i. v (formula k.ns i) t) e ∙ ns' t h ∙ ap not (sym (beq_true (at k.row t)))
@@ -214,16 +214,16 @@ module _ (k : Cut) where
 
     gc : (t : ℕ) → t < k.n → v (formula k.ms (get_or nd' c 0)) t ≡ (v (formula k.ns (get_or k.nd c 0)) t && not (y t))
     gc t h = ap (λ i. v (formula k.ms i) t) node_c ∙ ap (λ (f : Formula). v f t) stay_same
-        ∙ k.stay_made.means k.q k.ordered v w t ∙ ap (λ b. v (formula k.ns (get_or k.nd c 0)) t && b) (stays-y t h)
+        ∙ k.stay_made.means k.q k.ordered v w t ∙ ap (λ b. v (formula k.ns (get_or k.nd c 0)) t && b) (stays_y t h)
 
     g0 : (t : ℕ) → t < k.n → v (formula k.ms (get_or nd' k.s 0)) t ≡ (v (formula k.ns (get_or k.nd c 0)) t && y t)
     g0 t h = ap (λ i. v (formula k.ms i) t) node_s ∙ k.leave_made.means k.q (k.stay_made.orderly k.q k.ordered) v w t
         ∙ ap (λ (f : Formula). v f t && v (formula k.m1 k.leaves) t) (k.stay_made.extends.same (get_or k.nd c 0) whole_in)
         ∙ ap (λ (f : Formula). v (formula k.ns (get_or k.nd c 0)) t && v f t) (k.stay_made.extends.same k.leaves leaves_in)
-        ∙ ap (λ b. v (formula k.ns (get_or k.nd c 0)) t && b) (leaves-y t h)
+        ∙ ap (λ b. v (formula k.ns (get_or k.nd c 0)) t && b) (leaves_y t h)
 
-    pub part-exact : ((t r : ℕ) → t < k.n → r < k.n → v (formula k.ns (get_or k.nd (of k.cl t) 0)) r ≡ eqb (of k.cl r) (of k.cl t))
+    pub part_exact : ((t r : ℕ) → t < k.n → r < k.n → v (formula k.ns (get_or k.nd (of k.cl t) 0)) r ≡ eqb (of k.cl r) (of k.cl t))
         → (t r : ℕ) → t < k.n → r < k.n → v (formula k.ms (get_or nd' (of k.new t) 0)) r ≡ eqb (of k.new r) (of k.new t)
-    part-exact old t r ht hr = exact-after k.n (of k.cl) (of k.new) y c k.s k.low k.led k.state refl y0 k.odd first' k.is
+    part_exact old t r ht hr = exact_after k.n (of k.cl) (of k.new) y c k.s k.low k.led k.state refl y0 k.odd first' k.is
         (λ e t. v (formula k.ns (get_or k.nd e 0)) t) (λ e t. v (formula k.ms (get_or nd' e 0)) t)
-        old gc g0 (λ t r ht hr p q. ap (λ (f : Formula). v f r) (same-formula t ht p q)) t r ht hr
+        old gc g0 (λ t r ht hr p q. ap (λ (f : Formula). v f r) (same_formula t ht p q)) t r ht hr

@@ -8,10 +8,10 @@ use Rattle.kripke.specs.Rounds.{Matched, total}
 use Rattle.kripke.specs.Union.{both}
 use Rattle.kripke.specs.Classes.{Alike, Refined}
 use Rattle.kripke.proofs.Reflect.{some-T}
-use Rattle.kripke.proofs.Unions.{both-size, both-closed}
+use Rattle.kripke.proofs.Unions.{both_size, both_closed}
 use Rattle.refine.specs.Growth.{next_node}
 use Rattle.refine.specs.Tests.{test, hits}
-use Rattle.refine.specs.Steps.{at, node-formula, class_of, class_formula, Exact, Shallow, Divided}
+use Rattle.refine.specs.Steps.{at, node_formula, class_of, class_formula, Exact, Shallow, Divided}
 use Rattle.refine.specs.Rounding.{Refining, Rounded}
 use Rattle.refine.specs.declared.partition.Partition.{Partition}
 use Rattle.refine.proofs.Somes.{some_ext, T-yes, bools}
@@ -23,18 +23,18 @@ module _ (u : Kripke) (p q : Partition) (i : ℕ) (h : Refining u p q i) (c name
   here : name < length (vec_items p.nodes)
   here = rw nm (subst (λ (v : ℕ). get_or p.node v 0 < length (vec_items p.nodes)) lead (p.here c cn))
 
-  same : node-formula q name ≡ class_formula p c
-  same = h.keeps.extends.same name here ∙ ap (λ (j : ℕ). node-formula p j) (nm ∙ ap (λ (v : ℕ). get_or p.node v 0) (sym lead))
+  same : node_formula q name ≡ class_formula p c
+  same = h.keeps.extends.same name here ∙ ap (λ (j : ℕ). node_formula p j) (nm ∙ ap (λ (v : ℕ). get_or p.node v 0) (sym lead))
 
   pub ex_fits : T (next_node q.questions (length (vec_items q.nodes)) (record { code = 5; a = name; b = 0 }))
   ex_fits = T_and _ _ (lt_T name (length (vec_items q.nodes)) (omega (arith, here, h.keeps.extends.longer))) tt
 
-  ex_shallow : (d : ℕ) → Shallow d p → nesting (EX (node-formula q name)) ≤ suc d
+  ex_shallow : (d : ℕ) → Shallow d p → nesting (EX (node_formula q name)) ≤ suc d
   ex_shallow d old = subst (λ (f : Formula). suc (nesting f) ≤ suc d) (sym same) (omega (arith, old c cn))
 
   -- EX of the node of class c is true where a successor is in class c.
   ex_tests : ((s t : ℕ) → s < p.states → Member t (successors u s) → t < p.states) → Exact (test u) p
-      → (t : ℕ) → t < p.states → test u (EX (node-formula q name)) t ≡ hits u p.class c t
+      → (t : ℕ) → t < p.states → test u (EX (node_formula q name)) t ≡ hits u p.class c t
   ex_tests inside old t l = some_ext _ _ (successors u t) (λ v m.
       ap (λ (f : Formula). test u f v) same ∙ old c v cn (inside t v l m) ∙ ap (λ (w : ℕ). eqb (class_of p v) w) lead)
 
@@ -83,7 +83,7 @@ refining_skip u p q i h d =
 -- Split by every class, two states are in one class where each successor of either has a successor of the other in its class.
 pub inside_both : (a b : Kripke) → Closed a → Closed b → (p : Partition) → p.states ≡ total a b
     → (s t : ℕ) → s < p.states → Member t (successors (both a b) s) → t < p.states
-inside_both a b la lb p long s t l m = omega (arith, long, both-size a b, (both-closed a b la lb).inside s t (omega (arith, long, both-size a b)) m)
+inside_both a b la lb p long s t l m = omega (arith, long, both_size a b, (both_closed a b la lb).inside s t (omega (arith, long, both_size a b)) m)
 
 module _ (a b : Kripke) (la : Closed a) (lb : Closed b) (p q : Partition) (long : p.states ≡ total a b) (h : Refining (both a b) p q p.states) where
   mate : (x y : ℕ) → x < p.states → y < p.states → Alike q.class x y → (v : ℕ) → Member v (successors (both a b) x)

@@ -7,7 +7,7 @@ use Rattle.kripke.specs.Structure.{Kripke, State, Lawful, answer, size, state, s
 use Rattle.kripke.specs.Rounds.{total}
 use Rattle.kripke.specs.Tests.{some}
 use Rattle.kripke.specs.Union.{both}
-use Rattle.kripke.proofs.Unions.{both_first, both-second}
+use Rattle.kripke.proofs.Unions.{both_first, both_second}
 use Rattle.refine.specs.Rows.{state_of, structure}
 use Rattle.refine.specs.Tests.{leads, hits}
 use Rattle.refine.proofs.Somes.{some_ext, some-map}
@@ -40,20 +40,20 @@ module _ (a b : Kripke) where
   again : (i : ℕ) → size a ≤ i → size a + (i - size a) ≡ i
   again i l = omega arith
 
-  pub answer-first : (q i : ℕ) → i < size a → answer a i q ≡ answer (both a b) i q
-  answer-first q i l = ap (λ (x : State). get_or x.answers q false) (sym (both_first a b i l))
+  pub answer_first : (q i : ℕ) → i < size a → answer a i q ≡ answer (both a b) i q
+  answer_first q i l = ap (λ (x : State). get_or x.answers q false) (sym (both_first a b i l))
 
-  pub answer-second : (q i : ℕ) → size a ≤ i → i < total a b → answer b (i - size a) q ≡ answer (both a b) i q
-  answer-second q i l h =
-      ap (λ (x : State). get_or x.answers q false) (sym (both-second a b (i - size a) (omega arith))) ∙ ap (λ (j : ℕ). answer (both a b) j q) (again i l)
+  pub answer_second : (q i : ℕ) → size a ≤ i → i < total a b → answer b (i - size a) q ≡ answer (both a b) i q
+  answer_second q i l h =
+      ap (λ (x : State). get_or x.answers q false) (sym (both_second a b (i - size a) (omega arith))) ∙ ap (λ (j : ℕ). answer (both a b) j q) (again i l)
 
-  pub hits-first : (class : List ℕ) (c i : ℕ) → i < size a → leads a 0 class c i ≡ hits (both a b) class c i
-  hits-first class c i l =
+  pub hits_first : (class : List ℕ) (c i : ℕ) → i < size a → leads a 0 class c i ≡ hits (both a b) class c i
+  hits_first class c i l =
       some_ext _ _ (successors a i) (λ v m. ap (λ (j : ℕ). eqb (get_or class j 0) c) (zero-add v))
       ∙ ap (λ (x : State). some (λ v. eqb (get_or class v 0) c) x.next) (sym (both_first a b i l))
 
-  pub hits-second : (class : List ℕ) (c i : ℕ) → size a ≤ i → i < total a b → leads b (size a) class c (i - size a) ≡ hits (both a b) class c i
-  hits-second class c i l h =
+  pub hits_second : (class : List ℕ) (c i : ℕ) → size a ≤ i → i < total a b → leads b (size a) class c (i - size a) ≡ hits (both a b) class c i
+  hits_second class c i l h =
       sym (some-map (λ v. eqb (get_or class v 0) c) (λ v. size a + v) (successors b (i - size a)))
-      ∙ ap (λ (x : State). some (λ v. eqb (get_or class v 0) c) x.next) (sym (both-second a b (i - size a) (omega arith)))
+      ∙ ap (λ (x : State). some (λ v. eqb (get_or class v 0) c) x.next) (sym (both_second a b (i - size a) (omega arith)))
       ∙ ap (λ (j : ℕ). hits (both a b) class c j) (again i l)

@@ -5,12 +5,12 @@ use native.Mathlib.Decide.{ℕ_discrete}
 use Rattle.std.proofs.lemmas.Bool.{ne_eqb}
 use Rattle.kripke.specs.Ctl.{Formula, nesting}
 use Rattle.refine.specs.Classes.{leaders, bit}
-use Rattle.refine.specs.Steps.{at, node-formula, class_of, Stands, Odd, Keeps, Parted, Few, Scanned}
+use Rattle.refine.specs.Steps.{at, node_formula, class_of, Stands, Odd, Keeps, Parted, Few, Scanned}
 use Rattle.refine.specs.declared.partition.Partition.{Partition}
 use Rattle.refine.proofs.Sums.{sum_less, sum_mono, sum_ones, bit_le}
 use Rattle.refine.proofs.Part.{beq_refl}
 use Rattle.refine.proofs.Grown.{extends_refl, extends_trans}
-use Rattle.refine.proofs.Step.{ways, one_before, one-after, new_s0}
+use Rattle.refine.proofs.Step.{ways, one_before, one_after, new_s0}
 
 beq_eq : (a b : Bool) → beq a b ≡ true → a ≡ b
 beq_eq true true h = refl
@@ -56,7 +56,7 @@ stands_on v p q x row k l st =
       no = λ t h. ap (λ (f : Formula). v f t) (k.extends.same (suc x) l) ∙ st.no t (omega (arith, h, k.states));
     }
 
-pub nests_on : (d : ℕ) (p q : Partition) (x i : ℕ) → Keeps p q → i < length (vec_items p.nodes) → nesting (node-formula p i) ≤ d → nesting (node-formula q i) ≤ d
+pub nests_on : (d : ℕ) (p q : Partition) (x i : ℕ) → Keeps p q → i < length (vec_items p.nodes) → nesting (node_formula p i) ≤ d → nesting (node_formula q i) ≤ d
 nests_on d p q x i k l h = subst (λ (f : Formula). nesting f ≤ d) (sym (k.extends.same i l)) h
 
 pub scanned_start : (p : Partition) (x : ℕ) (row : List Bool) (i : ℕ) → ((t : ℕ) → t < i → at row (class_of p t) ≡ at row t) → Scanned p p x row i
@@ -114,7 +114,7 @@ module _ (p q r : Partition) (x : ℕ) (row : List Bool) (i : ℕ) (inside : suc
       record {
         keeps = keeps_trans p q r h.keeps d.keeps;
         finer = λ s t hs ht e. h.finer s t hs ht (one_before n cl new y c i q.low q.led o.state refl y0 o.odd first d.class s t (to s hs) (to t ht) e);
-        kept = λ s t hs ht e rr. one-after n cl new y c i q.low q.led o.state refl y0 o.odd first d.class s t (to s hs) (to t ht) (h.kept s t hs ht e rr)
+        kept = λ s t hs ht e rr. one_after n cl new y c i q.low q.led o.state refl y0 o.odd first d.class s t (to s hs) (to t ht) (h.kept s t hs ht e rr)
             (λ z. ap (λ b. beq b (at row i)) rr);
         sorted = λ t l. elim (ℕ_discrete t i) [
           | yes z ↦ subst (λ (v : ℕ). at row (new v) ≡ at row v) (sym z) (ap (λ v. at row v) (new_s0 n cl new y c i q.low q.led o.state refl y0 o.odd first d.class))

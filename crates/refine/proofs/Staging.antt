@@ -8,8 +8,8 @@ use Rattle.kripke.specs.Tests.{settled}
 use Rattle.kripke.specs.Union.{both}
 use Rattle.kripke.specs.Classes.{Alike, Low, Led, Numbered, Count, none, more, pass, Classes}
 use Rattle.kripke.proofs.Reflect.{beq-T, settled-T}
-use Rattle.kripke.proofs.Unions.{both_first, both-second}
-use Rattle.kripke.proofs.Classing.{opened_numbered, round_numbered, numbered_to, still_settled, class_of, table-classes}
+use Rattle.kripke.proofs.Unions.{both_first, both_second}
+use Rattle.kripke.proofs.Classing.{opened_numbered, round_numbered, numbered_to, still_settled, class_of, table_classes}
 use Rattle.refine.specs.Classes.{leaders, bit, sum}
 use Rattle.refine.specs.Tests.{test}
 use Rattle.refine.specs.Steps.{Exact}
@@ -41,7 +41,7 @@ unfolding leaders
 classes_counted a b k p long h =
     let low : Low (total a b) p.class = subst (λ (n : ℕ). Low n p.class) long p.low in
     let led : Led (total a b) p.class = subst (λ (n : ℕ). Led n p.class) long p.led in
-    (table-classes a b k p.class (λ i l. class_of a b k p.class h low led i l) p.count).0
+    (table_classes a b k p.class (λ i l. class_of a b k p.class h low led i l) p.count).0
     (subst (λ (n : ℕ). Count (λ i. get_or p.class i 0 ≡ i) n p.count) long
     (subst (λ (c : ℕ). Count (λ i. get_or p.class i 0 ≡ i) p.states c) (sym p.counted) (count_leaders p.class p.states)))
 
@@ -52,7 +52,7 @@ module _ (q : ℕ) (a b : Kripke) (la : Lawful q a) (lb : Lawful q b) where
       (λ (l : i < size a). ap (λ (x : State). length x.answers) (both_first a b i l) ∙ la.answered i l)
       (λ (l : size a ≤ i).
       let e : size a + (i - size a) ≡ i = omega arith in
-      ap (λ (j : ℕ). length (state (both a b) j).answers) (sym e) ∙ ap (λ (x : State). length x.answers) (both-second a b (i - size a) (omega arith))
+      ap (λ (j : ℕ). length (state (both a b) j).answers) (sym e) ∙ ap (λ (x : State). length x.answers) (both_second a b (i - size a) (omega arith))
       ∙ lb.answered (i - size a) (omega arith))
       (cases_lt i (size a))
 

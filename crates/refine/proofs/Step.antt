@@ -44,11 +44,11 @@ module _ (n : ℕ) (cl new : ℕ → ℕ) (y : ℕ → Bool) (c s0 : ℕ)
 
   pub low_after : (t : ℕ) → t < n → new t ≤ t
   low_after t h = ⊎_elim
-      (λ m. elim-lt m.0 m.1 m.2)
+      (λ m. elim_lt m.0 m.1 m.2)
       (λ m. omega (arith, m.1, low t h)) (ways t h)
     where
-      elim-lt : cl t ≡ c → y t ≡ true → new t ≡ s0 → new t ≤ t
-      elim-lt e q w = let f : t < s0 → ⊥ = λ l. (let a : y t ≡ false = first t l e in let z : ◌≡◌ {A = ℕ} 0 1 = cc in omega arith) in omega (arith, f)
+      elim_lt : cl t ≡ c → y t ≡ true → new t ≡ s0 → new t ≤ t
+      elim_lt e q w = let f : t < s0 → ⊥ = λ l. (let a : y t ≡ false = first t l e in let z : ◌≡◌ {A = ℕ} 0 1 = cc in omega arith) in omega (arith, f)
 
   pub new_c : new c ≡ c
   new_c = is c cn ∙ rw yc (go (eqb (cl c) c))
@@ -88,8 +88,8 @@ module _ (n : ℕ) (cl new : ℕ → ℕ) (y : ℕ → Bool) (c s0 : ℕ)
       go (inr p) (inl q) = absurd (unused s hs (sym p.1 ∙ e ∙ q.2))
       go (inr p) (inr q) = p.0 z ∙ sym (q.0 (sym (one_before s t hs ht e) ∙ z))
 
-  pub one-after : (s t : ℕ) → s < n → t < n → cl s ≡ cl t → (cl s ≡ c → y s ≡ y t) → new s ≡ new t
-  one-after s t hs ht e z = go (ways s hs) (ways t ht)
+  pub one_after : (s t : ℕ) → s < n → t < n → cl s ≡ cl t → (cl s ≡ c → y s ≡ y t) → new s ≡ new t
+  one_after s t hs ht e z = go (ways s hs) (ways t ht)
     where
       no : y s ≡ true → y t ≡ false → cl s ≡ c → ⊥
       no a b d = let w = z d in let v : ◌≡◌ {A = ℕ} 0 1 = cc in omega arith
@@ -104,8 +104,8 @@ module _ (n : ℕ) (cl new : ℕ → ℕ) (y : ℕ → Bool) (c s0 : ℕ)
       go (inr p) (inr q) = p.1 ∙ e ∙ sym q.1
 
   -- the one new leader
-  pub leaders-after : sum (λ i. bit (eqb (new i) i)) n ≡ suc (sum (λ i. bit (eqb (cl i) i)) n)
-  leaders-after = sum_more (λ i. bit (eqb (cl i) i)) (λ i. bit (eqb (new i) i)) n s0 in0
+  pub leaders_after : sum (λ i. bit (eqb (new i) i)) n ≡ suc (sum (λ i. bit (eqb (cl i) i)) n)
+  leaders_after = sum_more (λ i. bit (eqb (cl i) i)) (λ i. bit (eqb (new i) i)) n s0 in0
       (λ i h d. ⊎_elim
       (λ m. let a : eqb (new i) i ≡ false = ne_eqb _ _ (λ z. d (sym z ∙ m.2)) in
       let b : eqb (cl i) i ≡ false = ne_eqb _ _ (λ z. (let q : i ≡ c = sym z ∙ m.0 in let w : y i ≡ y c = ap y q in let x : ◌≡◌ {A = ℕ} 0 1 = cc m.1 in omega arith)) in
@@ -123,8 +123,8 @@ module _ (n : ℕ) (cl new : ℕ → ℕ) (y : ℕ → Bool) (c s0 : ℕ)
     fc s h = let e : cl s0 ≡ c = of0 in subst (λ (v : ℕ). f v s ≡ eqb (cl s) v) of0 (ex s0 s in0 h)
 
     -- the part that went
-    at-s0 : (s : ℕ) → s < n → g s0 s ≡ eqb (new s) s0
-    at-s0 s h = g0 s h ∙ (rw (fc s h) (⊎_elim
+    at_s0 : (s : ℕ) → s < n → g s0 s ≡ eqb (new s) s0
+    at_s0 s h = g0 s h ∙ (rw (fc s h) (⊎_elim
         (λ m. rw (eq-eqb _ _ m.0, m.1, eq-eqb _ _ m.2) refl)
         (λ m. rw (ne_eqb (new s) s0 (λ z. unused s h (sym m.1 ∙ z))) (go (eqb_or (cl s) c) m.0))
         (ways s h)))
@@ -151,9 +151,9 @@ module _ (n : ℕ) (cl new : ℕ → ℕ) (y : ℕ → Bool) (c s0 : ℕ)
         (λ m. rw m.1 refl)
         (ways s hs)
 
-    pub exact-after : (t s : ℕ) → t < n → s < n → g (new t) s ≡ eqb (new s) (new t)
-    exact-after t s ht hs = ⊎_elim
-        (λ m. subst (λ (v : ℕ). g v s ≡ eqb (new s) v) (sym m.2) (at-s0 s hs))
+    pub exact_after : (t s : ℕ) → t < n → s < n → g (new t) s ≡ eqb (new s) (new t)
+    exact_after t s ht hs = ⊎_elim
+        (λ m. subst (λ (v : ℕ). g v s ≡ eqb (new s) v) (sym m.2) (at_s0 s hs))
         (λ m. subst (λ (v : ℕ). g v s ≡ eqb (new s) v) (sym m.1) (elim (ℕ_discrete (cl t) c) [
           | yes e ↦ subst (λ (v : ℕ). g v s ≡ eqb (new s) v) (sym e) (at_c s hs)
           | no d ↦ at_other t s ht hs d

@@ -12,14 +12,14 @@ abbrev pub at : List Bool → ℕ → Bool
 at row s = slice_index_or row s false
 
 -- The formula of a node; the class number of a state; the formula of a state's class.
-abbrev pub node-formula : Partition → ℕ → Formula
-node-formula p i = formula (vec_items p.nodes) i
+abbrev pub node_formula : Partition → ℕ → Formula
+node_formula p i = formula (vec_items p.nodes) i
 
 abbrev pub class_of : Partition → ℕ → ℕ
 class_of p s = slice_index p.class s
 
 abbrev pub class_formula : Partition → ℕ → Formula
-class_formula p s = node-formula p (slice_index p.node (class_of p s))
+class_formula p s = node_formula p (slice_index p.node (class_of p s))
 
 -- Under the valuation each class's formula holds exactly at its members.
 abbrev pub Exact : (Formula → ℕ → Bool) → Partition → Type 0
@@ -39,8 +39,8 @@ moved class row c s t = cond (slice_index class t == c && beq (at row t) (at row
 
 -- Node x holds where the row says yes, and the node after it where it says no.
 pub record Stands (v : Formula → ℕ → Bool) (p : Partition) (x : ℕ) (row : List Bool) : Type 0 where
-  pub yes : (t : ℕ) → t < p.states → v (node-formula p x) t ≡ at row t
-  pub no : (t : ℕ) → t < p.states → v (node-formula p (suc x)) t ≡ not (at row t)
+  pub yes : (t : ℕ) → t < p.states → v (node_formula p x) t ≡ at row t
+  pub no : (t : ℕ) → t < p.states → v (node_formula p (suc x)) t ≡ not (at row t)
 
 -- s is the first state whose class's least state is on the other side of the row.
 pub record Odd (p : Partition) (s : ℕ) (row : List Bool) : Type 0 where
@@ -63,7 +63,7 @@ pub record Parted (p q : Partition) (x s : ℕ) (row : List Bool) : Type 0 where
   pub count : q.count ≡ suc p.count
   pub class : (t : ℕ) → t < p.states → class_of q t ≡ moved p.class row (class_of p s) s t
   pub exact : (v : Formula → ℕ → Bool) → Boolean v → Stands v p x row → Exact v p → Exact v q
-  pub shallow : (d : ℕ) → nesting (node-formula p x) ≤ d → nesting (node-formula p (suc x)) ≤ d → Shallow d p → Shallow d q
+  pub shallow : (d : ℕ) → nesting (node_formula p x) ≤ d → nesting (node_formula p (suc x)) ≤ d → Shallow d p → Shallow d q
 
 -- From p to q classes were parted by the row only, and the states below i agree with the least of their class.
 pub record Scanned (p q : Partition) (x : ℕ) (row : List Bool) (i : ℕ) : Type 0 where
@@ -72,7 +72,7 @@ pub record Scanned (p q : Partition) (x : ℕ) (row : List Bool) (i : ℕ) : Typ
   pub kept : (s t : ℕ) → s < p.states → t < p.states → Alike p.class s t → at row s ≡ at row t → Alike q.class s t
   pub sorted : (t : ℕ) → t < i → at row (class_of q t) ≡ at row t
   pub exact : (v : Formula → ℕ → Bool) → Boolean v → Stands v p x row → Exact v p → Exact v q
-  pub shallow : (d : ℕ) → nesting (node-formula p x) ≤ d → nesting (node-formula p (suc x)) ≤ d → Shallow d p → Shallow d q
+  pub shallow : (d : ℕ) → nesting (node_formula p x) ≤ d → nesting (node_formula p (suc x)) ≤ d → Shallow d p → Shallow d q
 
 -- Every class was split by the row: the formula of the test, true where the row says yes, is all that the new classes' formulas needed.
 pub record Divided (p q : Partition) (test : Node) (row : List Bool) : Type 0 where

@@ -1,6 +1,6 @@
 ghost use Rattle.std.specs.Prelude.{◌≡◌, ◌≤◌, MatchBool};
 ghost use Rattle.rules.specs.Limits.{LawfulRule};
-ghost use Rattle.rules.specs.Rules.{applies as appliesIn, leads as leadsTo};
+ghost use Rattle.rules.specs.Rules.{applies as applies_in, leads as leads_to};
 
 // A rule applies in a state whose bits under care equal need, and leads to the state without the clear bits, with the set bits.
 #[derive(Clone, Copy, PartialEq, Eq, Debug)]
@@ -13,13 +13,13 @@ pub struct Rule {
 
 impl Rule {
     pub(crate) fn applies(self, s: u8) -> bool
-        ensures { result ≡ appliesIn self s }
+        ensures { result ≡ applies_in self s }
     {
         s & self.care == self.need
     }
 
     pub(crate) fn leads(self, s: u8) -> u8
-        ensures { result ≡ leadsTo self s }
+        ensures { result ≡ leads_to self s }
     {
         s & !self.clear | self.set
     }

@@ -4,7 +4,7 @@ use Rattle.std.proofs.lemmas.List.{get_or_read}
 use Rattle.kripke.specs.Nodes.{blank}
 use Rattle.kripke.specs.declared.node.Node.{Node}
 use Rattle.refine.specs.Growth.{next_node}
-use Rattle.compare.specs.Reach.{usesA, usesB}
+use Rattle.compare.specs.Reach.{uses_a, uses_b}
 use Rattle.compare.proofs.Renames.{names_a, names_b}
 use Rattle.compare.proofs.Marks.{marking_start, marking_more, marks}
 use Rattle.compare.proofs.prune.reach.Goals as goal
@@ -50,10 +50,10 @@ loop-i-preserved-then-reached-i c =
       omega (arith, c.loop-i.invariant.1),
       marking_more p.questions ns c.args.root i c.loop-i.i c.loop-i.reached c.mark.new.reached c.mark-then-reached-i.new.reached
           s p.orderly l c.if-reached-i.true
-          (marks c.uses_a.result (usesA n) n.a c.loop-i.reached c.mark.new.reached (c.uses_a.ensures ∙ ap usesA r)
+          (marks c.uses_a.result (uses_a n) n.a c.loop-i.reached c.mark.new.reached (c.uses_a.ensures ∙ ap uses_a r)
           (λ e. omega (arith, names_a p.questions i n f e, l, c.requires.few, c.loop-i.invariant.0))
           (subst (λ (z : Node). c.mark.new.reached ≡ cond c.uses_a.result (set c.loop-i.reached z.a true) c.loop-i.reached) r c.mark.ensures))
-          (marks c.uses_b.result (usesB n) n.b c.mark.new.reached c.mark-then-reached-i.new.reached (c.uses_b.ensures ∙ ap usesB r)
+          (marks c.uses_b.result (uses_b n) n.b c.mark.new.reached c.mark-then-reached-i.new.reached (c.uses_b.ensures ∙ ap uses_b r)
           (λ e. omega (arith, names_b p.questions i n f e, l, c.requires.few, c.mark.array_long))
           (subst (λ (z : Node). c.mark-then-reached-i.new.reached ≡ cond c.uses_b.result (set c.mark.new.reached z.b true) c.mark.new.reached) r c.mark-then-reached-i.ensures))
           c.loop-i.invariant.2,

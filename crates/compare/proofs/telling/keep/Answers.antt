@@ -2,7 +2,7 @@ use Rattle.std.proofs.Common.{ℕ, ◌<◌, length, get_or, vec_items, sym, ◌�
 use Rattle.std.proofs.lemmas.Bool.{not-true, not-false}
 use Rattle.refine.specs.Steps.{class_of}
 use Rattle.compare.specs.Pruned.{Pruned}
-use Rattle.compare.proofs.Levels.{one_in, nodes_fit, kept_none, kept-some}
+use Rattle.compare.proofs.Levels.{one_in, nodes_fit, kept_none, kept_some}
 use Rattle.compare.proofs.telling.keep.Goals as goal
 
 pub prune-requires : goal.prune-requires
@@ -21,7 +21,7 @@ returns-then-differs c =
     let ns = vec_items c.prune.new.out in
     let p = subst (λ (i : ℕ). Pruned r.parts.questions (vec_items r.parts.nodes) i ns) c.root.ensures c.prune.ensures.pruned in
     record {
-      kept = kept-some r (not-true _ (sym c.differs.ensures ∙ c.if-differs.true)) ns
+      kept = kept_some r (not-true _ (sym c.differs.ensures ∙ c.if-differs.true)) ns
           (subst (λ (q : ℕ). Pruned q (vec_items r.parts.nodes) (get_or r.parts.node (class_of r.parts r.pair.first.initial) 0) ns) r.asks p);
       room = c.prune.ensures.room;
     }

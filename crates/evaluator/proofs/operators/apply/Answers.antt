@@ -2,7 +2,7 @@ use Rattle.std.proofs.Common.{ℕ, List, sym, subst}
 use Rattle.kripke.specs.Ctl.{truth}
 use Rattle.evaluator.specs.Rows.{Tells}
 use Rattle.evaluator.specs.Marks.{marks}
-use Rattle.evaluator.proofs.Meanings.{by_code, is_true, is_question, is-not, is_and, is_or, is_ex, is_ax, is-ef, is-af, is_eg, is_ag, is_eu, is_au}
+use Rattle.evaluator.proofs.Meanings.{by_code, is_true, is_question, is_not, is_and, is_or, is_ex, is_ax, is_ef, is_af, is_eg, is_ag, is_eu, is_au}
 use Rattle.evaluator.proofs.operators.apply.Goals as goal
 
 pub returns-in-0 : goal.returns-in-0
@@ -12,7 +12,7 @@ pub returns-in-1 : goal.returns-in-1
 returns-in-1 g c = by_code _ _ 1 _ _ _ _ _ c.in-1.is (λ fs m. is_question _ _ (g.met.M.Model.lawful c.args.model.now) _ _ c.ask.ensures)
 
 pub returns-in-2 : goal.returns-in-2
-returns-in-2 g c = by_code _ _ 2 _ _ _ _ _ c.in-2.is (λ fs m. is-not _ _ (g.met.M.Model.lawful c.args.model.now) (marks c.args.full) c.requires.1.0 _ _ _ m c.differ.ensures)
+returns-in-2 g c = by_code _ _ 2 _ _ _ _ _ c.in-2.is (λ fs m. is_not _ _ (g.met.M.Model.lawful c.args.model.now) (marks c.args.full) c.requires.1.0 _ _ _ m c.differ.ensures)
 
 pub returns-in-3 : goal.returns-in-3
 returns-in-3 g c = by_code _ _ 3 _ _ _ _ _ c.in-3.is (λ fs m. is_and _ _ (g.met.M.Model.lawful c.args.model.now) _ _ _ _ _ m.0 m.1 c.both.ensures)
@@ -27,10 +27,10 @@ pub returns-in-6 : goal.returns-in-6
 returns-in-6 g c = by_code _ _ 6 _ _ _ _ _ c.in-6.is (λ fs m. is_ax _ _ (g.met.M.Model.lawful c.args.model.now) _ _ _ m c.next-in-6.ensures)
 
 pub returns-in-7 : goal.returns-in-7
-returns-in-7 g c = by_code _ _ 7 _ _ _ _ _ c.in-7.is (λ fs m. is-ef _ _ (g.met.M.Model.lawful c.args.model.now) (marks c.args.full) c.requires.1.0 _ _ _ m c.until.ensures)
+returns-in-7 g c = by_code _ _ 7 _ _ _ _ _ c.in-7.is (λ fs m. is_ef _ _ (g.met.M.Model.lawful c.args.model.now) (marks c.args.full) c.requires.1.0 _ _ _ m c.until.ensures)
 
 pub returns-in-8 : goal.returns-in-8
-returns-in-8 g c = by_code _ _ 8 _ _ _ _ _ c.in-8.is (λ fs m. is-af _ _ (g.met.M.Model.lawful c.args.model.now) (marks c.args.full) c.requires.1.0 _ _ _ m c.until-in-8.ensures)
+returns-in-8 g c = by_code _ _ 8 _ _ _ _ _ c.in-8.is (λ fs m. is_af _ _ (g.met.M.Model.lawful c.args.model.now) (marks c.args.full) c.requires.1.0 _ _ _ m c.until-in-8.ensures)
 
 pub returns-in-9 : goal.returns-in-9
 returns-in-9 g c = by_code _ _ 9 _ _ _ _ _ c.in-9.is (λ fs m. is_eg _ _ (g.met.M.Model.lawful c.args.model.now) _ _ _ m c.always.ensures)

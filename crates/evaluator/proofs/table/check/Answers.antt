@@ -1,7 +1,7 @@
 use Rattle.std.proofs.Common.{length, sym, ◌∙◌, ⊎_elim, arith, eqb-true}
 use borrow.Author.Tests.{eqb-false}
 use Rattle.evaluator.specs.Marks.{Ready}
-use Rattle.evaluator.proofs.Breaches.{first_count, first-node, first-words, clean}
+use Rattle.evaluator.proofs.Breaches.{first_count, first_node, first_words, clean}
 use Rattle.evaluator.proofs.table.check.Goals as goal
 
 pub returns-then-is_empty : goal.returns-then-is_empty
@@ -17,12 +17,12 @@ returns-then-is_empty c =
 pub returns-then-not-in_order : goal.returns-then-not-in_order
 returns-then-not-in_order c =
     rw c.refuse-then-not-in_order.ensures
-    (first-node _ _ _ c.loop-i.i (omega arith) (omega arith) c.loop-i-test.true c.if-not-in_order.ensures c.loop-i.invariant, tt)
+    (first_node _ _ _ c.loop-i.i (omega arith) (omega arith) c.loop-i-test.true c.if-not-in_order.ensures c.loop-i.invariant, tt)
 
 pub returns-then-words-nodes : goal.returns-then-words-nodes
 returns-then-words-nodes c =
     rw c.refuse-then-words-nodes.ensures
-    (first-words _ _ _ (omega arith) (omega arith) (λ i l. c.loop-i.invariant i (omega arith)) c.if-words-nodes.true, tt)
+    (first_words _ _ _ (omega arith) (omega arith) (λ i l. c.loop-i.invariant i (omega arith)) c.if-words-nodes.true, tt)
 
 pub returns : goal.returns
 returns c =

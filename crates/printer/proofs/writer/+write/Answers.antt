@@ -3,7 +3,7 @@ use Rattle.std.proofs.lemmas.Result.{err_from_is_err_and}
 use Rattle.kripke.specs.Nodes.{formula}
 use Rattle.printer.proofs.Writings.{level, spelt_short}
 use Rattle.printer.proofs.Parts.{one_at, two_at, one_earlier, two_earlier, truth_spells, question_spells}
-use Rattle.printer.proofs.Arms.{exit, one_stops, one_ends, two_stops_1, two-stops-2, two-stops-3, two-stops-4, two_ends}
+use Rattle.printer.proofs.Arms.{exit, one_stops, one_ends, two_stops_1, two_stops_2, two_stops_3, two_stops_4, two_ends}
 use Rattle.printer.proofs.writer.+write.Goals as goal
 
 pub returns-then-levels-eq0 : goal.returns-then-levels-eq0
@@ -57,7 +57,7 @@ returns-in_err-write-in-Around t c q l w e =
     let p = err_from_is_err_and c.from_residual-in_err-write-in-Around.result c.from_residual-in_err-write-in-Around.ensures.1 in
     let z = two_at q c.args.nodes.now w c.args.i c.requires.node l (omega arith) c.in-Around.before c.in-Around.between c.in-Around.after c.in-Around.ensures in
     exit q _ _ _ c.from_residual-in_err-write-in-Around.result p.0 c.in_err-write-in-Around.field-0.0 p.1 p.2
-    (two-stops-2 q c.args.nodes.now c.args.i l _ _ _ z (string_bytes c.args.out.now) (string_bytes c.put-in-Around.new.out) tt c.in_ok-put-in-Around.ensures (string_bytes c.write-in-Around.new.out) c.in_err-write-in-Around.field-0.0 (c.in_err-write-in-Around.ensures q (suc l) w (omega arith)))
+    (two_stops_2 q c.args.nodes.now c.args.i l _ _ _ z (string_bytes c.args.out.now) (string_bytes c.put-in-Around.new.out) tt c.in_ok-put-in-Around.ensures (string_bytes c.write-in-Around.new.out) c.in_err-write-in-Around.field-0.0 (c.in_err-write-in-Around.ensures q (suc l) w (omega arith)))
 
 pub put-requires-in-Around-2 : goal.put-requires-in-Around-2
 put-requires-in-Around-2 t c =
@@ -69,7 +69,7 @@ returns-in_err-put-in-Around-2 t c q l w e =
     let p = err_from_is_err_and c.from_residual-in_err-put-in-Around-2.result c.from_residual-in_err-put-in-Around-2.ensures.1 in
     let z = two_at q c.args.nodes.now w c.args.i c.requires.node l (omega arith) c.in-Around.before c.in-Around.between c.in-Around.after c.in-Around.ensures in
     exit q _ _ _ c.from_residual-in_err-put-in-Around-2.result p.0 c.in_err-put-in-Around-2.field-0.0 p.1 p.2
-    (two-stops-3 q c.args.nodes.now c.args.i l _ _ _ z (string_bytes c.args.out.now) (string_bytes c.put-in-Around.new.out) tt c.in_ok-put-in-Around.ensures (string_bytes c.write-in-Around.new.out) (c.in_ok-write-in-Around.ensures q (suc l) w (omega arith)) (string_bytes c.put-in-Around-2.new.out) c.in_err-put-in-Around-2.field-0.0 c.in_err-put-in-Around-2.ensures)
+    (two_stops_3 q c.args.nodes.now c.args.i l _ _ _ z (string_bytes c.args.out.now) (string_bytes c.put-in-Around.new.out) tt c.in_ok-put-in-Around.ensures (string_bytes c.write-in-Around.new.out) (c.in_ok-write-in-Around.ensures q (suc l) w (omega arith)) (string_bytes c.put-in-Around-2.new.out) c.in_err-put-in-Around-2.field-0.0 c.in_err-put-in-Around-2.ensures)
 
 pub write-requires-in-Around-2 : goal.write-requires-in-Around-2
 write-requires-in-Around-2 t c =
@@ -82,7 +82,7 @@ returns-in_err-write-in-Around-2 t c q l w e =
     let p = err_from_is_err_and c.from_residual-in_err-write-in-Around-2.result c.from_residual-in_err-write-in-Around-2.ensures.1 in
     let z = two_at q c.args.nodes.now w c.args.i c.requires.node l (omega arith) c.in-Around.before c.in-Around.between c.in-Around.after c.in-Around.ensures in
     exit q _ _ _ c.from_residual-in_err-write-in-Around-2.result p.0 c.in_err-write-in-Around-2.field-0.0 p.1 p.2
-    (two-stops-4 q c.args.nodes.now c.args.i l _ _ _ z (string_bytes c.args.out.now) (string_bytes c.put-in-Around.new.out) tt c.in_ok-put-in-Around.ensures (string_bytes c.write-in-Around.new.out) (c.in_ok-write-in-Around.ensures q (suc l) w (omega arith)) (string_bytes c.put-in-Around-2.new.out) tt c.in_ok-put-in-Around-2.ensures (string_bytes c.write-in-Around-2.new.out) c.in_err-write-in-Around-2.field-0.0 (c.in_err-write-in-Around-2.ensures q (suc l) w (omega arith)))
+    (two_stops_4 q c.args.nodes.now c.args.i l _ _ _ z (string_bytes c.args.out.now) (string_bytes c.put-in-Around.new.out) tt c.in_ok-put-in-Around.ensures (string_bytes c.write-in-Around.new.out) (c.in_ok-write-in-Around.ensures q (suc l) w (omega arith)) (string_bytes c.put-in-Around-2.new.out) tt c.in_ok-put-in-Around-2.ensures (string_bytes c.write-in-Around-2.new.out) c.in_err-write-in-Around-2.field-0.0 (c.in_err-write-in-Around-2.ensures q (suc l) w (omega arith)))
 
 pub put-requires-in-Around-3 : goal.put-requires-in-Around-3
 put-requires-in-Around-3 t c =

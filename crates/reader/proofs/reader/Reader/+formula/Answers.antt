@@ -6,8 +6,8 @@ use Rattle.reader.specs.Phrases.{Form, Begun, applied, joined}
 use Rattle.reader.specs.Reading.{view, Laying}
 use Rattle.reader.specs.Table.{node}
 use Rattle.reader.proofs.Chains.{broke}
-use Rattle.reader.proofs.Formulas.{same_view, taken, truth_taken, question_taken, argument_fails, applied_taken, open_fails, first-fails, middle-fails, second-fails, close-fails, joined-taken}
-use Rattle.reader.proofs.Layings.{leaf_laid, applied-laid, joined-laid}
+use Rattle.reader.proofs.Formulas.{same_view, taken, truth_taken, question_taken, argument_fails, applied_taken, open_fails, first_fails, middle_fails, second_fails, close_fails, joined_taken}
+use Rattle.reader.proofs.Layings.{leaf_laid, applied_laid, joined_laid}
 use Rattle.reader.proofs.reader.Reader.+formula.Goals as goal
 
 pub returns-in_err-a-in-Unary : goal.returns-in_err-a-in-Unary
@@ -95,7 +95,7 @@ returns-in_ok-a-in-Unary t c =
           taken q l s0 s2 _ (applied c.in-Unary.operator z.value) _ _
           (applied_taken q l s0 s1 c.in-Unary.operator (subst (λ (h : Head). Begun q l s0 h s1) c.in-Unary.is (c.in_ok-head.ensures.begins l e)) s2 z.value z.after z.good)
           (same_view c.formula.new.self c.push-in-Unary.new.self p.text p.at)
-          (applied-laid c.args.self.now.used c.args.places.now c.in-Unary.operator z.value c.in_ok-a-in-Unary.a c.formula.new.self.used c.formula.new.places c.unary_code.result _ _ _
+          (applied_laid c.args.self.now.used c.args.places.now c.in-Unary.operator z.value c.in_ok-a-in-Unary.a c.formula.new.self.used c.formula.new.places c.unary_code.result _ _ _
           (subst (λ (k : ℕ). Laying k c.args.places.now z.value c.in_ok-a-in-Unary.a c.formula.new.self.used c.formula.new.places) u z.is)
           c.unary_code.ensures p.own p.used p.written);
     }
@@ -115,7 +115,7 @@ returns-in_err-a-in-Binary t c =
       owes = λ l e.
           let x = c.in_ok-open-in-Binary.ensures.owes q in
           broke (Form l) _ q s0 _ _ _ c.from_residual-in_err-a-in-Binary.ensures.1
-          (first-fails q l o s0 s1 s2 s2 s2 s2 s2 (subst (λ (h : Head). Begun q l s0 h s1) c.in-Binary.is (c.in_ok-head.ensures.begins l e))
+          (first_fails q l o s0 s1 s2 s2 s2 s2 s2 (subst (λ (h : Head). Begun q l s0 h s1) c.in-Binary.is (c.in_ok-head.ensures.begins l e))
           x.value x.after x.good _ (c.in_err-a-in-Binary.ensures.owes (suc l) (omega (arith, on.1))));
     }
 
@@ -137,7 +137,7 @@ returns-in_err-code-in-Binary t c =
           let x = c.in_ok-open-in-Binary.ensures.owes q in
           let f = c.in_ok-a-in-Binary.ensures.owes (suc l) (omega (arith, on.1)) in
           broke (Form l) _ q s0 _ _ _ c.from_residual-in_err-code-in-Binary.ensures.1
-          (middle-fails q l o s0 s1 s2 s3 s3 s3 s3 (subst (λ (h : Head). Begun q l s0 h s1) c.in-Binary.is (c.in_ok-head.ensures.begins l e))
+          (middle_fails q l o s0 s1 s2 s3 s3 s3 s3 (subst (λ (h : Head). Begun q l s0 h s1) c.in-Binary.is (c.in_ok-head.ensures.begins l e))
           x.value x.after x.good f.value f.after f.good _ (c.in_err-code-in-Binary.ensures.owes q));
     }
 
@@ -162,7 +162,7 @@ returns-in_err-b-in-Binary t c =
           let f = c.in_ok-a-in-Binary.ensures.owes (suc l) (omega (arith, on.1)) in
           let m = c.in_ok-code-in-Binary.ensures.owes q in
           broke (Form l) _ q s0 _ _ _ c.from_residual-in_err-b-in-Binary.ensures.1
-          (second-fails q l o s0 s1 s2 s3 s4 s4 s4 (subst (λ (h : Head). Begun q l s0 h s1) c.in-Binary.is (c.in_ok-head.ensures.begins l e))
+          (second_fails q l o s0 s1 s2 s3 s4 s4 s4 (subst (λ (h : Head). Begun q l s0 h s1) c.in-Binary.is (c.in_ok-head.ensures.begins l e))
           x.value x.after x.good f.value f.after f.good m.value m.after m.good _ (c.in_err-b-in-Binary.ensures.owes (suc l) (omega (arith, on.1))));
     }
 
@@ -190,7 +190,7 @@ returns-in_err-close-in-Binary t c =
           let m = c.in_ok-code-in-Binary.ensures.owes q in
           let g = c.in_ok-b-in-Binary.ensures.owes (suc l) (omega (arith, on.1)) in
           broke (Form l) _ q s0 _ _ _ c.from_residual-in_err-close-in-Binary.ensures.1
-          (close-fails q l o s0 s1 s2 s3 s4 s5 s5 (subst (λ (h : Head). Begun q l s0 h s1) c.in-Binary.is (c.in_ok-head.ensures.begins l e))
+          (close_fails q l o s0 s1 s2 s3 s4 s5 s5 (subst (λ (h : Head). Begun q l s0 h s1) c.in-Binary.is (c.in_ok-head.ensures.begins l e))
           x.value x.after x.good f.value f.after f.good m.value m.after m.good g.value g.after g.good _ (c.in_err-close-in-Binary.ensures.owes q));
     }
 
@@ -231,9 +231,9 @@ returns-in_ok-close-in-Binary t c =
           let g = c.in_ok-b-in-Binary.ensures.owes (suc l) (omega (arith, on.1)) in
           let y = c.in_ok-close-in-Binary.ensures.owes q in
           taken q l s0 s6 _ (joined o m.value f.value g.value) _ _
-          (joined-taken q l o s0 s1 s2 s3 s4 s5 s6 (subst (λ (h : Head). Begun q l s0 h s1) c.in-Binary.is (c.in_ok-head.ensures.begins l e)) x.value x.after x.good f.value f.after f.good m.value m.after m.good g.value g.after g.good y.value y.after y.good)
+          (joined_taken q l o s0 s1 s2 s3 s4 s5 s6 (subst (λ (h : Head). Begun q l s0 h s1) c.in-Binary.is (c.in_ok-head.ensures.begins l e)) x.value x.after x.good f.value f.after f.good m.value m.after m.good g.value g.after g.good y.value y.after y.good)
           (same_view c.close.new.self c.push-in-Binary.new.self p.text p.at)
-          (joined-laid c.args.self.now.used c.args.places.now o m.value f.value g.value c.in_ok-a-in-Binary.a c.formula-in-Binary.new.self.used c.formula-in-Binary.new.places
+          (joined_laid c.args.self.now.used c.args.places.now o m.value f.value g.value c.in_ok-a-in-Binary.a c.formula-in-Binary.new.self.used c.formula-in-Binary.new.places
           c.in_ok-b-in-Binary.b c.formula-in-Binary-2.new.self.used c.formula-in-Binary-2.new.places c.in_ok-code-in-Binary.code _ _ _
           (subst (λ (k : ℕ). Laying k c.args.places.now f.value c.in_ok-a-in-Binary.a c.formula-in-Binary.new.self.used c.formula-in-Binary.new.places) (mo.used ∙ mh.used) f.is)
           (subst (λ (k : ℕ). Laying k c.formula-in-Binary.new.places g.value c.in_ok-b-in-Binary.b c.formula-in-Binary-2.new.self.used c.formula-in-Binary-2.new.places) mm.used g.is)

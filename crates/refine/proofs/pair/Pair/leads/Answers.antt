@@ -2,7 +2,7 @@ use Rattle.std.proofs.Common.{◌≡◌, ℕ, ◌-◌, length, vec_items, ap, �
 use Rattle.kripke.specs.Structure.{size}
 use Rattle.refine.specs.Tests.{leads}
 use Rattle.refine.specs.Pairs.{first_of, second_of}
-use Rattle.refine.proofs.Rowed.{row_size, hits-first, hits-second}
+use Rattle.refine.proofs.Rowed.{row_size, hits_first, hits_second}
 use Rattle.refine.proofs.pair.Pair.leads.Goals as goal
 
 pub leads-requires-else-i-n : goal.leads-requires-else-i-n
@@ -19,7 +19,7 @@ returns-then-i-n c =
     let p = c.args.self.now in
     let n : c.len-n.result ≡ length (vec_items p.first.rows) = search rules in
     c.leads.ensures
-    ∙ hits-first (first_of p) (second_of p) c.args.class.now c.args.c c.args.i (omega (arith, n, c.if-i-n.true, row_size p.first.initial (vec_items p.first.rows)))
+    ∙ hits_first (first_of p) (second_of p) c.args.class.now c.args.c c.args.i (omega (arith, n, c.if-i-n.true, row_size p.first.initial (vec_items p.first.rows)))
 
 pub returns-else-i-n : goal.returns-else-i-n
 returns-else-i-n c =
@@ -27,4 +27,4 @@ returns-else-i-n c =
     let n : c.len-n.result ≡ length (vec_items p.first.rows) = search rules in
     let e : c.len-n.result ≡ size (first_of p) = omega (arith, n, row_size p.first.initial (vec_items p.first.rows)) in
     c.leads-else-i-n.ensures ∙ ap (λ (z : ℕ). leads (second_of p) z c.args.class.now c.args.c (c.args.i - z)) e
-    ∙ hits-second (first_of p) (second_of p) c.args.class.now c.args.c c.args.i (omega (arith, e, c.if-i-n.false)) c.requires
+    ∙ hits_second (first_of p) (second_of p) c.args.class.now c.args.c c.args.i (omega (arith, e, c.if-i-n.false)) c.requires

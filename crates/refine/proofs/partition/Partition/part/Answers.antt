@@ -1,6 +1,6 @@
 use Rattle.std.proofs.Common.{suc, ◌+◌, ◌<◌, sym, refl, ap, ◌∙◌, add-one, arith, rules}
 use Rattle.refine.specs.declared.partition.Partition.{Partition}
-use Rattle.refine.proofs.Part.{Cut, cut, part_low, part_led, part_here, part-exact, part_shallow, part_orderly, part_leaders, part_extends, part_nodes}
+use Rattle.refine.proofs.Part.{Cut, cut, part_low, part_led, part_here, part_exact, part_shallow, part_orderly, part_leaders, part_extends, part_nodes}
 use Rattle.refine.proofs.Scan.{odd_fewer}
 use Rattle.refine.proofs.partition.Partition.part.Goals as goal
 
@@ -35,6 +35,6 @@ returns c =
       nodes = part_nodes k;
       count = add-one p.count;
       class = c.renumber.ensures;
-      exact = λ v w st old. part-exact k v w st.yes st.no old;
+      exact = λ v w st old. part_exact k v w st.yes st.no old;
       shallow = λ d y n old. part_shallow k d y n old;
     }

@@ -1,7 +1,7 @@
 use Rattle.std.proofs.Common.{ℕ, suc, ◌+◌, ◌<◌, ◌≤◌, length, vec_items, refl, arith}
 use Rattle.refine.specs.declared.partition.Partition.{Partition}
 use Rattle.refine.proofs.Scan.{room_left}
-use Rattle.refine.proofs.Divide.{Started, start-scanned, start-few, divided}
+use Rattle.refine.proofs.Divide.{Started, start_scanned, start_few, divided}
 use Rattle.refine.proofs.partition.Partition.split.Goals as goal
 
 pub begin-x-requires : goal.begin-x-requires
@@ -32,8 +32,8 @@ scan-requires c =
     record {
       start = start;
       inside = inside;
-      sorted = (start-scanned p _ c.args.test x st c.part.new.self s c.args.row.now o d).sorted;
-      few = start-few p _ c.args.test x st c.part.new.self s c.args.row.now o d c.requires.few;
+      sorted = (start_scanned p _ c.args.test x st c.part.new.self s c.args.row.now o d).sorted;
+      few = start_few p _ c.args.test x st c.part.new.self s c.args.row.now o d c.requires.few;
     }
 
 pub returns-then-s-self : goal.returns-then-s-self
