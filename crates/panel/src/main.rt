@@ -2,6 +2,7 @@
 #![tactic(auto)]
 
 use crate::failure::Failure;
+use std::process::ExitCode;
 use std::{env, io};
 
 mod command;
@@ -15,17 +16,20 @@ mod tests;
 mod trial;
 mod words;
 
-fn main(rt: HostRuntime) -> io::Result<()> {
+fn main(rt: HostRuntime) -> io::Result<ExitCode> {
     let words: Vec<String> = env::args(&rt)?.collect(rt.alloc())?;
     match command::run(&rt, words.as_slice()) {
-        Ok(text) => print!(rt; "{text}"),
+        Ok(text) => {
+            print!(rt; "{text}")?;
+            Ok(ExitCode::SUCCESS)
+        },
         Err(Failure::Told(text)) => {
             eprint!(rt; "{text}")?;
-            Err(io::Error::from(io::ErrorKind::InvalidInput))
-        }
+            Ok(ExitCode::FAILURE)
+        },
         Err(Failure::Io(error)) => {
             eprintln!(rt; "panel: {error}")?;
-            Err(error)
-        }
+            Ok(ExitCode::FAILURE)
+        },
     }
 }
