@@ -1,7 +1,10 @@
 -- Node tables: formulas in the order of their subformulas, the last node the root.
-use Rattle.std.specs.Prelude.{◌≡◌, ℕ, ◌-◌, ◌<◌, List, [], ◌∷◌, ◌++◌, length, slice_index_or}
+use Rattle.std.specs.Prelude.{◌≡◌, ℕ, ◌-◌, ◌<◌, ◌≤◌, List, [], ◌∷◌, ◌++◌, length, slice_index_or, Ok, Err, Result, Some, None, Option}
 use Rattle.kripke.specs.Ctl.{Formula, truth, question, and, or, EX, AX, EF, AF, EG, AG, EU, AU}
 use Rattle.kripke.specs.declared.node.Node.{Node}
+use Rattle.kripke.specs.declared.operator.Operator as code
+use Rattle.kripke.specs.declared.operator.Operator.TheVariants as op
+use Rattle.kripke.specs.declared.operator.UnknownCode.{UnknownCode}
 
 -- What a code stands for: true; question a; an operator on the formula of node a; an operator on those of nodes a and b.
 pub data Operator : Type 0 where
@@ -59,3 +62,30 @@ blank = record { code = 0; a = 0; b = 0 }
 
 abbrev pub WellFormed : ℕ → List Node → Type 0
 WellFormed q ns = (i : ℕ) → i < length ns → LawfulNode q i (slice_index_or ns i blank)
+
+-- The first node that is not in order; none where every node is.
+abbrev pub FirstDisordered : ℕ → List Node → Option ℕ → Type 0
+FirstDisordered q ns None = WellFormed q ns
+FirstDisordered q ns (Some i) =
+    (i < length ns) × ((LawfulNode q i (slice_index_or ns i blank) → ⊥) × ((j : ℕ) → j < i → LawfulNode q j (slice_index_or ns j blank)))
+
+-- The code of each operator, which is its place among the operators.
+abbrev pub code_of : code.Operator → ℕ
+code_of op.Truth = 0
+code_of op.Question = 1
+code_of op.Not = 2
+code_of op.And = 3
+code_of op.Or = 4
+code_of op.EX = 5
+code_of op.AX = 6
+code_of op.EF = 7
+code_of op.AF = 8
+code_of op.EG = 9
+code_of op.AG = 10
+code_of op.EU = 11
+code_of op.AU = 12
+
+-- A code is read as the operator that has it, and refused where there is none.
+abbrev pub Decodes : ℕ → Result code.Operator UnknownCode → Type 0
+Decodes c (Ok o) = c ≡ code_of o
+Decodes c (Err e) = (length operators ≤ c) × (e.0 ≡ c)

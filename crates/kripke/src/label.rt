@@ -1,6 +1,9 @@
 ghost use Rattle.std.specs.Prelude.{◌≡◌, ℕ, ◌<◌, ◌≤◌, Bool, false, List, length, slice_index_or};
 ghost use Rattle.kripke.specs.Telling.{Telling};
 
+// A kind has no more questions.
+pub const MOST_QUESTIONS: usize = 32;
+
 // What shows in a state: the answers to the yes-or-no questions of a kind, numbered from 0.
 pub trait Label: Copy {
     ghost count: { ℕ };
@@ -19,12 +22,7 @@ pub trait Label: Copy {
     fn telling(&self, other: &Self) -> Option<usize>
         ensures { Telling (answers self.now) (answers other.now) result }
     {
-        for i in 0..Self::questions() {
-            if self.answer(i) != other.answer(i) {
-                return Some(i);
-            }
-        }
-        None
+        (0..Self::questions()).find(|i| self.answer(*i) != other.answer(*i))
     }
 
     ghost some: { 1 ≤ count };

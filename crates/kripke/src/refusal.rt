@@ -51,6 +51,19 @@ pub struct Refusal {
     pub place: usize,
 }
 
+impl Layer {
+    // The refusal of this layer for a cause, at a place.
+    pub fn refusal(self, cause: Cause, place: usize) -> Refusal
+        ensures { result ≡ record { cause = cause; layer = self; place = place } }
+    {
+        Refusal {
+            cause,
+            layer: self,
+            place,
+        }
+    }
+}
+
 impl Refusal {
     // The number of the cause.
     pub fn number(&self) -> u8

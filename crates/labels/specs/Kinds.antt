@@ -1,6 +1,27 @@
 -- What the two label kinds answer, and how each is coded in four bytes.
-use Rattle.std.specs.Prelude.{ℕ, ◌+◌, ◌*◌, ◌/◌, ◌%◌, ◌^◌, Bool, cond, ◌&&◌, List, [], ◌∷◌, map, Some, None, Option, ◌==◌, nat_le, nat_lt, slice_index}
+use Rattle.std.specs.Prelude.{ℕ, ◌+◌, ◌*◌, ◌/◌, ◌%◌, ◌^◌, Bool, cond, ◌&&◌, List, [], ◌∷◌, map, Some, None, Ok, Err, Option, Result, ◌≡◌, ◌≢◌, codes, ◌==◌, nat_le, nat_lt, slice_index}
 use Rattle.std.specs.List.{range_with_len}
+use Rattle.labels.specs.declared.kind.Kind.{Kind}
+use Rattle.labels.specs.declared.kind.Kind.TheVariants.{SignalWords, Readings}
+use Rattle.labels.specs.declared.kind.UnknownKind.{UnknownKind}
+
+-- The number of each kind in an image, and its name.
+abbrev pub kind_number : Kind → ℕ
+kind_number SignalWords = 1
+kind_number Readings = 2
+
+abbrev pub names : Kind → List ℕ
+names SignalWords = codes "signal words"
+names Readings = codes "readings"
+
+-- A number is read as the kind that has it, and refused where none has.
+abbrev pub Names : ℕ → Result Kind UnknownKind → Type 0
+Names n (Ok kind) = n ≡ kind_number kind
+Names n (Err e) = (n ≢ 1) × (n ≢ 2) × (e.0 ≡ n)
+
+-- The kind that an image names by its first byte: readings where that is 2, else signal words.
+abbrev pub named : List ℕ → Kind
+named image = cond (slice_index image 0 == 2) Readings SignalWords
 
 -- The bit of value 2 ^ i of a word.
 abbrev pub bit : ℕ → ℕ → Bool

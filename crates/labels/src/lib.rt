@@ -3,5 +3,6 @@
 #![tactic(auto)]
 
 pub mod coded;
+pub mod kind;
 pub mod reading;
 pub mod signal;

@@ -4,6 +4,7 @@ ghost use Rattle.labels.specs.Kinds.{bands, readings};
 ghost use Rattle.std.proofs.Common.{rules};
 
 use crate::coded::Coded;
+use crate::kind::Kind;
 use kripke::label::Label;
 
 // A detector's level and its limits, which rise from fault to alarm.
@@ -20,11 +21,8 @@ pub struct Reading {
 // Fault, pre-alarm, alarm.
 const QUESTIONS: usize = 3;
 
-// The number of this kind in an image.
-const KIND: u8 = 2;
-
-// Where a level lies among the limits.
-#[derive(Clone, Copy)]
+// Where a level lies among the limits, from the lowest band up.
+#[derive(Clone, Copy, PartialEq, Eq, PartialOrd, Ord)]
 enum Band {
     Fault,
     Normal,
@@ -90,13 +88,13 @@ impl Label for Reading {
     }
 
     fn telling(&self, other: &Reading) -> Option<usize> {
-        match (self.band(), other.band()) {
-            (Band::Fault, Band::Fault)
-            | (Band::Normal, Band::Normal)
-            | (Band::PreAlarm, Band::PreAlarm)
-            | (Band::Alarm, Band::Alarm) => None,
-            (Band::Fault, _) | (_, Band::Fault) => Some(0),
-            (Band::Normal, _) | (_, Band::Normal) => Some(1),
+        let (band, other) = (self.band(), other.band());
+        if band == other {
+            return None;
+        }
+        match band.min(other) {
+            Band::Fault => Some(0),
+            Band::Normal => Some(1),
             _ => Some(2),
         }
     }
@@ -105,8 +103,8 @@ impl Label for Reading {
 impl Coded for Reading {
     ghost coding = { readings };
 
-    fn kind() -> u8 {
-        KIND
+    fn kind() -> Kind {
+        Kind::Readings
     }
 
     fn decode(bytes: [u8; 4]) -> Option<Reading> {

@@ -3,6 +3,7 @@ ghost use Rattle.labels.specs.Words.{length-bits};
 ghost use Rattle.std.proofs.Common.{rules};
 
 use crate::coded::Coded;
+use crate::kind::Kind;
 use kripke::label::Label;
 
 // A word of 32 signals: question i is yes exactly when the bit of value 2^i is 1.
@@ -11,9 +12,6 @@ pub struct SignalWord(pub u32);
 
 // A signal is a question.
 const SIGNALS: usize = 32;
-
-// The number of this kind in an image.
-const KIND: u8 = 1;
 
 impl Label for SignalWord {
     ghost count = { 32 };
@@ -38,8 +36,8 @@ impl Label for SignalWord {
 impl Coded for SignalWord {
     ghost coding = { words };
 
-    fn kind() -> u8 {
-        KIND
+    fn kind() -> Kind {
+        Kind::SignalWords
     }
 
     fn decode(bytes: [u8; 4]) -> Option<SignalWord> {

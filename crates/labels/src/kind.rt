@@ -1,0 +1,60 @@
+ghost use Rattle.labels.specs.Kinds.{Names, kind_number, named, names};
+ghost use Rattle.std.specs.Prelude.{◌≡◌, Some};
+
+use std::fmt;
+
+// The kinds of labels that images hold, by their numbers in an image.
+#[derive(Clone, Copy, PartialEq, Eq, Debug)]
+pub enum Kind {
+    SignalWords = 1,
+    Readings,
+}
+
+// A number that is no kind's.
+#[derive(Clone, Copy, PartialEq, Eq, Debug)]
+pub struct UnknownKind(pub u8);
+
+impl Kind {
+    // The kind that an image's first byte names; signal words where it names none, since they refuse such an image.
+    pub fn of_image(image: &[u8]) -> Kind
+        ensures { result ≡ named image.now }
+    {
+        match image.first() {
+            Some(number) => Kind::try_from(*number).unwrap_or(Kind::SignalWords),
+            None => Kind::SignalWords,
+        }
+    }
+}
+
+impl From<Kind> for u8 {
+    ghost from_gives = { λ kind number. number ≡ kind_number kind };
+
+    fn from(kind: Kind) -> u8 {
+        kind as u8
+    }
+}
+
+impl TryFrom<u8> for Kind {
+    type Error = UnknownKind;
+
+    ghost try_from_gives = { Names };
+
+    fn try_from(number: u8) -> Result<Kind, UnknownKind> {
+        match number {
+            1 => Ok(Kind::SignalWords),
+            2 => Ok(Kind::Readings),
+            _ => Err(UnknownKind(number)),
+        }
+    }
+}
+
+impl fmt::Display for Kind {
+    ghost output = { λ kind. Some (names kind) };
+
+    fn fmt<W: fmt::Write>(&self, f: &mut fmt::Formatter<W>) -> fmt::Result {
+        f.write_str(match self {
+            Kind::SignalWords => "signal words",
+            Kind::Readings => "readings",
+        })
+    }
+}
