@@ -37,7 +37,7 @@ fn check_header<L: Coded>(image: &[u8], layer: Layer) -> Result<Header, Refusal>
             place: len,
         });
     }
-    if image[0] != L::kind() {
+    if image[0] != u8::from(L::kind()) {
         return Err(Refusal {
             cause: Cause::HeaderField,
             layer,
