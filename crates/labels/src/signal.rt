@@ -28,6 +28,7 @@ impl Label for SignalWord {
         SIGNALS
     }
 
+    #[tactic(auto, using(crate::specs::Words::bits_at, crate::specs::Words::bits_past, crate::specs::Words::masked))]
     fn answer(&self, i: usize) -> bool {
         i < SIGNALS && (self.0 >> i) & 1 == 1
     }
