@@ -1,7 +1,8 @@
 -- How many numbers pass a test, and that `count_ones` counts the bits of a word.
-use Rattle.std.proofs.Common.{◌≡◌, ℕ, zero, suc, ◌+◌, ◌*◌, ◌/◌, ◌%◌, ◌^◌, ◌<◌, ◌≤◌, Bool, true, false, cond, eqb, List, get_or, sym, refl, ap, ◌∙◌, ap₂, ⊎_elim, add-zero, add_assoc, add-suc, pow-suc, zero-add, div-one, arith}
+use Rattle.std.proofs.Common.{◌≡◌, ℕ, zero, suc, ◌+◌, ◌*◌, ◌/◌, ◌%◌, ◌^◌, ◌<◌, ◌≤◌, Bool, true, false, cond, eqb, List, [], ◌∷◌, length, sum_by, get_or, sym, refl, ap, ◌∙◌, ap₂, ⊎_elim, add-zero, add_assoc, add-suc, pow-suc, zero-add, div-one, arith}
 use Rattle.std.proofs.lemmas.Bool.{cases_eq}
 use lib.Count.{ones, ones_in, ones_step}
+use Rattle.std.proofs.lemmas.List.Sums.{sum_by-cons}
 use Rattle.std.proofs.lemmas.Nat.{shr-shr, mod_below}
 use Rattle.evaluator.specs.Rows.{bit}
 use Rattle.evaluator.specs.Marks.{marks, tally}
@@ -47,25 +48,33 @@ ones_tally (suc k) w h =
     let on : suc k ≡ 1 + k = omega arith in
     ones_step w ∙ ap₂ (λ (x y : ℕ). x + y) low high ∙ omega (arith, all, ap (tally (bit w)) on)
 
--- word q of a row
-word_tally : (ws : List ℕ) (q : ℕ) → get_or ws q 0 < 2 ^ 64 → tally (λ j. marks ws (64 * q + j)) 64 ≡ ones (get_or ws q 0)
-word_tally ws q h =
-    tally_same (λ j. marks ws (64 * q + j)) (bit (get_or ws q 0)) 64
-    (λ j l. let e : (64 * q + j) / 64 ≡ q = omega arith in let f : (64 * q + j) % 64 ≡ j = omega arith in
-    ap (λ (x : ℕ). bit (get_or ws x 0) ((64 * q + j) % 64)) e ∙ ap (λ (x : ℕ). bit (get_or ws q 0) x) f)
-    ∙ sym (ones_tally 64 (get_or ws q 0) h)
+-- the words of a row
+pub words_tally : (ws : List ℕ) → ((q : ℕ) → get_or ws q 0 < 2 ^ 64) → sum_by ones ws ≡ tally (marks ws) (64 * length ws)
+words_tally [] h = sym (tally_none (marks []))
+words_tally (w ∷ ws) h =
+    let p : ℕ → Bool = marks (w ∷ ws) in
+    let first : ones w ≡ tally p 64 = ones_tally 64 w (h 0) ∙ tally_same (bit w) p 64 (λ j l. first_word w ws j l) in
+    let rest : sum_by ones ws ≡ tally (λ j. p (64 + j)) (64 * length ws) =
+    words_tally ws (λ q. h (suc q)) ∙ tally_same (marks ws) (λ j. p (64 + j)) (64 * length ws) (λ j l. next_word w ws j) in
+    let long : 64 * length (w ∷ ws) ≡ 64 + 64 * length ws = omega arith in
+    let whole : ones w + sum_by ones ws ≡ tally p (64 * length (w ∷ ws)) = omega (arith, first, rest, tally_add p 64 (64 * length ws), ap (tally p) long) in
+    sum_by-cons ones w ws ∙ whole
+  where
+    first_word : (w : ℕ) (ws : List ℕ) (j : ℕ) → j < 64 → bit w j ≡ marks (w ∷ ws) j
+    first_word w ws j l =
+        let place : j / 64 ≡ 0 = omega arith in
+        let here : j % 64 ≡ j = omega arith in
+        ap (bit w) (sym here) ∙ ap (λ (x : ℕ). bit (get_or (w ∷ ws) x 0) (j % 64)) (sym place)
 
-pub row_tally : (ws : List ℕ) → ((q : ℕ) → get_or ws q 0 < 2 ^ 64) → ones (get_or ws 0 0) + ones (get_or ws 1 0) + ones (get_or ws 2 0) + ones (get_or ws 3 0) ≡ tally (marks ws) 256
-row_tally ws h =
-    let p : ℕ → Bool = marks ws in
-    let a3 = tally_add p 192 64 in
-    let a2 = tally_add p 128 64 in
-    let a1 = tally_add p 64 64 in
-    let w0 : tally p 64 ≡ ones (get_or ws 0 0) = tally_same p (λ j. p (64 * 0 + j)) 64 (λ j l. ap p (omega arith)) ∙ word_tally ws 0 (h 0) in
-    let w1 = word_tally ws 1 (h 1) in
-    let w2 = word_tally ws 2 (h 2) in
-    let w3 = word_tally ws 3 (h 3) in
-    omega arith
+    next_word : (w : ℕ) (ws : List ℕ) (j : ℕ) → marks ws j ≡ marks (w ∷ ws) (64 + j)
+    next_word w ws j =
+        let place : suc (j / 64) ≡ (64 + j) / 64 = omega arith in
+        let here : j % 64 ≡ (64 + j) % 64 = omega arith in
+        ap (bit (get_or ws (j / 64) 0)) here ∙ ap (λ (x : ℕ). bit (get_or (w ∷ ws) x 0) ((64 + j) % 64)) place
+
+-- the four words of a row
+pub row_tally : (ws : List ℕ) → length ws ≡ 4 → ((q : ℕ) → get_or ws q 0 < 2 ^ 64) → sum_by ones ws ≡ tally (marks ws) 256
+row_tally ws four h = words_tally ws h ∙ ap (λ (n : ℕ). tally (marks ws) (64 * n)) four
 
 -- a place that is marked for the first time: the measure 256 - tally falls
 pub tally_mark : (p q : ℕ → Bool) (n s : ℕ) → s < n → p s ≡ false → q s ≡ true → ((t : ℕ) → t < n → (t ≡ s → ⊥) → q t ≡ p t) → tally q n ≡ tally p n + 1
@@ -91,3 +100,7 @@ tally_le p (suc n) =
     let rest = tally_le p n in
     let here : cond (p n) 1 0 ≤ 1 = elim (p n) as (λ b. cond b 1 0 ≤ 1) [ true ↦ omega arith | false ↦ omega arith ] in
     omega arith
+
+-- so the count fits into a word of 32 bits
+pub row_few : (ws : List ℕ) → length ws ≡ 4 → ((q : ℕ) → get_or ws q 0 < 2 ^ 64) → sum_by ones ws < 2 ^ 32
+row_few ws four h = omega (arith, row_tally ws four h, tally_le (marks ws) 256)
