@@ -53,10 +53,13 @@ module _ (k : Kripke) (law : Closed k) (f : ℕ → Bool) where
       (p, way, λ on. both_ways (f (p 1)) (ap f e ∙ hu) on)
   next_no quantifier.Exists s h off = λ p way on. both_ways (f (p 1)) (some_no f (successors k s) off (p 1) (second k s p way)) on
 
-pub next_divides : (n : ℕ) (k : Kripke) → Lawful n k → (e : Quantifier) (f : ℕ → Bool) (P : ℕ → Bool → Type 0) (r : ℕ → Bool) → Collects (size k) P r
-    → ((s : ℕ) (b : Bool) → s < size k → P s b → b ≡ steps e f (successors k s)) → Divides k e (Next (Marked f)) r
-next_divides n k law e f P r done is = record {
-  yes = λ s h on. next_yes k law.closed f e s h (sym (is s (r s) h (done.here s h)) ∙ on);
-  no = λ s h off. next_no k law.closed f e s h (sym (is s (r s) h (done.here s h)) ∙ off);
-  beyond = done.beyond;
+pub next_divides : (n : ℕ) (k : Kripke) (law : Lawful n k) (e : Quantifier) (f r : ℕ → Bool)
+    → ((s : ℕ) → s < 256 → r s ≡ (ltb s (size k) && steps e f (successors k s))) → Divides k e (Next (Marked f)) r
+next_divides n k law e f r is = record {
+  yes = λ s h on. next_yes k law.closed f e s h (sym (here s h) ∙ on);
+  no = λ s h off. next_no k law.closed f e s h (sym (here s h) ∙ off);
+  beyond = λ s h l. is s l ∙ and_left (ltb s (size k)) (steps e f (successors k s)) (le-ltb s (size k) h);
 }
+  where
+    here : (s : ℕ) → s < size k → r s ≡ steps e f (successors k s)
+    here s h = is s (omega (arith, law.few)) ∙ ap (λ (b : Bool). b && steps e f (successors k s)) (lt-ltb s (size k) h)

@@ -16,7 +16,7 @@ use kripke::node::Node;
 use kripke::refusal::Refusal;
 
 mod operators;
-mod quantifier;
+pub mod quantifier;
 mod row;
 mod table;
 

@@ -2,8 +2,8 @@ ghost use Rattle.std.specs.Prelude.{◌≡◌};
 ghost use Rattle.evaluator.specs.Marks.{dual};
 
 // The path quantifiers of CTL: E, on some path, and A, on each path.
-#[derive(Clone, Copy)]
-pub(crate) enum Quantifier {
+#[derive(Clone, Copy, PartialEq, Eq, Debug)]
+pub enum Quantifier {
     Exists,
     ForAll,
 }

@@ -1,7 +1,6 @@
-ghost use Rattle.std.specs.Prelude.{◌≡◌, ℕ, ◌+◌, ◌*◌, ◌<◌, ◌≤◌, not, ◌&&◌, ◌||◌, length, ◌==◌, nat_lt, slice_index};
+ghost use Rattle.std.specs.Prelude.{◌≡◌, ℕ, ◌+◌, ◌*◌, ◌<◌, ◌≤◌, ◌||◌, length, ◌==◌, nat_lt, slice_index};
 ghost use Rattle.evaluator.specs.Rows.{at, bit};
 ghost use Rattle.evaluator.specs.Marks.{marks, tally};
-ghost use Rattle.std.specs.Bool.{beq};
 
 use std::array;
 

@@ -40,7 +40,8 @@ fn operand(words: &[u64], i: usize, x: u16) -> Row
 
 // Writes the row of a node to its four words.
 fn write<M: Model>(model: &M, node: Node, a: &Row, b: &Row, words: &mut [u64])
-    requires { (length words.old ≡ 4) × (node.code < length operators) }
+    requires room { length words.old ≡ 4 }
+    requires known { node.code < length operators }
     ensures { Applies (M.meaning model.now) (operator node) node.a node.b (marks a.now) (marks b.now) (marks words.new) }
 {
     let Some(row) = words.as_mut_array() else {

@@ -1,4 +1,4 @@
-use Rattle.std.proofs.Common.{arith}
+use Rattle.std.proofs.Common.{arith, rules}
 use Rattle.evaluator.specs.Marks.{marks}
 use Rattle.evaluator.proofs.Tallies.{tally_le}
 use Rattle.evaluator.proofs.Sweeps.{sown, grew, reaped}
@@ -18,5 +18,6 @@ loop-quantifier-smaller g c =
 
 pub returns : goal.returns
 returns g c =
-    reaped _ _ (g.met.M.Model.lawful c.args.model.now) _ _ _ _ (grew _ _ _ _ _ _ _ c.loop-quantifier.invariant c.sweep.ensures)
-    (c.sweep.ensures.still c.loop-quantifier-test.false)
+    let all = grew _ _ _ _ _ _ _ c.loop-quantifier.invariant c.sweep.ensures in
+    let made = reaped _ _ (g.met.M.Model.lawful c.args.model.now) _ _ _ _ all (c.sweep.ensures.still c.loop-quantifier-test.false) in
+    search rules
