@@ -1,6 +1,6 @@
--- The rows of EX and AX, and rows that are filled state by state.
-use Rattle.std.proofs.Common.{◌≡◌, ℕ, ◌+◌, ◌<◌, Bool, true, false, ◌&&◌, ◌||◌, ◌≤◌, eqb, ltb, sym, refl, ap, ◌∙◌, subst, ⊎_elim, arith}
-use Rattle.std.proofs.lemmas.Bool.{both_ways, cases_eq, cases_lt, eq-eqb, ne_eqb, lt-ltb, le-ltb, and_left, or_left}
+-- The rows of EX and AX, and rows that collect the states that pass a test.
+use Rattle.std.proofs.Common.{◌≡◌, ℕ, ◌<◌, Bool, true, false, ◌&&◌, ◌≤◌, ltb, sym, ap, ◌∙◌, ⊎_elim, arith}
+use Rattle.std.proofs.lemmas.Bool.{both_ways, cases_lt, lt-ltb, le-ltb, and_left}
 use Rattle.kripke.specs.Structure.{Kripke, Closed, Lawful, size, successors}
 use Rattle.kripke.specs.Ctl.{Next}
 use Rattle.evaluator.specs.Marks.{Collects, Divides, Marked, Paths, dual, steps}
@@ -8,28 +8,6 @@ use Rattle.evaluator.specs.declared.quantifier.Quantifier.{Quantifier}
 use Rattle.evaluator.specs.declared.quantifier.Quantifier.TheVariants as quantifier
 use Rattle.evaluator.proofs.Members.{every_yes, every_no, some_yes, some_no}
 use Rattle.kripke.proofs.Walks.{through, second}
-
--- One more state is done, and it is marked or left.
-pub took : (P : ℕ → Bool → Type 0) (q r : ℕ → Bool) (s : ℕ) → s < 256 → Collects s P q → P s true → ((t : ℕ) → t < 256 → r t ≡ (eqb t s || q t)) → Collects (s + 1) P r
-took P q r s small done on new = record {
-  here = λ t h. ⊎_elim
-      (λ (same : t ≡ s). subst (λ (x : ℕ). P x (r x)) (sym same) (subst (P s) (sym (new s small ∙ or_left (eqb s s) (q s) (eq-eqb s s refl))) on))
-      (λ (ne : t ≡ s → ⊥). subst (P t) (sym (other t (omega arith) ne)) (done.here t (omega arith)))
-      (cases_eq t s);
-  beyond = λ t h l. other t l (λ same. omega arith) ∙ done.beyond t (omega arith) l;
-}
-  where
-    other : (t : ℕ) → t < 256 → (t ≡ s → ⊥) → r t ≡ q t
-    other t l ne = new t l ∙ ap (λ (b : Bool). b || q t) (ne_eqb t s ne)
-
-pub passed : (P : ℕ → Bool → Type 0) (q : ℕ → Bool) (s : ℕ) → s < 256 → Collects s P q → P s false → Collects (s + 1) P q
-passed P q s small done off = record {
-  here = λ t h. ⊎_elim
-      (λ (same : t ≡ s). subst (λ (x : ℕ). P x (q x)) (sym same) (subst (P s) (sym (done.beyond s (omega arith) small)) off))
-      (λ (ne : t ≡ s → ⊥). done.here t (omega arith))
-      (cases_eq t s);
-  beyond = λ t h l. done.beyond t (omega arith) l;
-}
 
 -- The marks, where the test is a function.
 pub collected : (n : ℕ) (P : ℕ → Bool → Type 0) (q h : ℕ → Bool) → Collects n P q → ((s : ℕ) (b : Bool) → s < n → P s b → b ≡ h s) → (s : ℕ) → s < 256 → q s ≡ (ltb s n && h s)

@@ -52,7 +52,8 @@ fn successor_marked<M: Model>(model: &M, s: usize, i: usize, row: &Row) -> bool
     marked(row, model.successor(s, i))
 }
 
-// Whether some successor of s is marked, or each.
+// Whether some successor of s is marked, or each. It runs for each state of each sweep.
+#[inline(always)]
 fn onward<M: Model>(model: &M, quantifier: Quantifier, s: usize, row: &Row) -> bool
     ensures { result ≡ steps quantifier (marks row.now) (successors (M.meaning model.now) s) }
 {
