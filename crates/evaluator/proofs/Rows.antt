@@ -1,14 +1,15 @@
 -- The marks of rows: a row written at one state, a whole row, a row read out of a table.
-use Rattle.std.proofs.Common.{◌≡◌, ℕ, zero, suc, ◌+◌, ◌-◌, ◌*◌, ◌/◌, ◌%◌, ◌^◌, ◌<◌, ◌≤◌, Bool, true, false, ◌||◌, eqb, ltb, List, [], ◌∷◌, length, get_or, set, sym, refl, ap, ◌∙◌, ⊎_elim, add-zero, arith, get_or-set_other, get_or-set_same}
-use lib.Bits.{bit_and, bit_or, and_mask}
+use Rattle.std.proofs.Common.{◌≡◌, ℕ, zero, suc, ◌+◌, ◌-◌, ◌*◌, ◌/◌, ◌%◌, ◌^◌, ◌<◌, ◌≤◌, Bool, true, false, not, ◌&&◌, ◌||◌, eqb, ltb, List, [], length, get_or, set, sym, refl, ap, ◌∙◌, ⊎_elim, arith, drop, get_or-set_other, get_or-set_same, rules}
+use lib.Bits.{bit_and, bit_or, bit_xor}
 use Rattle.std.proofs.lemmas.Nat.{one_shl}
 use Rattle.std.proofs.lemmas.Bool.{eq-eqb, ne_eqb, cases_eq, cases_lt, lt-ltb, le-ltb}
+use Rattle.std.proofs.lemmas.List.{places}
+use Rattle.std.specs.Simd.{first_chunks}
 use Rattle.evaluator.specs.Rows.{bit}
-use Rattle.evaluator.specs.Marks.{marks}
-use Rattle.evaluator.proofs.Bits.{or_bit, power_bit}
-
-pub low_digit : (x : ℕ) → bit_and x 1 ≡ x % 2
-low_digit x = and_mask x 1
+use Rattle.evaluator.specs.Marks.{Complements, Whole, marks}
+use Rattle.evaluator.proofs.Bits.{and_bit, or_bit, power_bit, xor_bit}
+use Rattle.kripke.specs.Structure.{Kripke}
+use mathlib.Core.Bool.{beq}
 
 swapped : (x y : Bool) → (x || y) ≡ (y || x)
 swapped true true = refl
@@ -40,29 +41,34 @@ marked_row ws s four hs t ht =
     ∙ ap (λ (b : Bool). b || marks ws t) (sym (ne_eqb t s (λ same. ne (ap (λ (x : ℕ). x / 64) same)))))
     (cases_eq (t / 64) (s / 64))
 
--- Four words, each with the bits set that are below what is left of n.
-pub four_full : (a b c d n : ℕ) → ((j : ℕ) → j < 64 → bit a j ≡ ltb j n) → ((j : ℕ) → j < 64 → bit b j ≡ ltb j (n - 64))
-    → ((j : ℕ) → j < 64 → bit c j ≡ ltb j (n - 128)) → ((j : ℕ) → j < 64 → bit d j ≡ ltb j (n - 192))
-    → (s : ℕ) → s < 256 → marks (a ∷ b ∷ c ∷ d ∷ []) s ≡ ltb s n
-four_full a b c d n ha hb hc hd s l = pick (s / 64) (s % 64) (omega arith) (omega arith) ∙ whole
-  where
-    pick : (q j : ℕ) → q < 4 → j < 64 → bit (get_or (a ∷ b ∷ c ∷ d ∷ []) q 0) j ≡ ltb j (n - 64 * q)
-    pick zero j h m = ha j m ∙ ap (λ (x : ℕ). ltb j x) (omega arith)
-    pick (suc zero) j h m = hb j m
-    pick (suc (suc zero)) j h m = hc j m
-    pick (suc (suc (suc zero))) j h m = hd j m
-    pick (suc (suc (suc (suc q)))) j h m = absurd (omega arith)
+-- Words that have the bits set that are below what is left of n.
+pub first_row : (ws : List ℕ) (n : ℕ) → ((q : ℕ) → q < 4 → (j : ℕ) → j < 64 → bit (get_or ws q 0) j ≡ ltb j (n - 64 * q)) → (s : ℕ) → s < 256 → marks ws s ≡ ltb s n
+first_row ws n is s l = is (s / 64) (omega arith) (s % 64) (omega arith) ∙ ⊎_elim
+    (λ (h : s < n). lt-ltb (s % 64) (n - 64 * (s / 64)) (omega arith) ∙ sym (lt-ltb s n h))
+    (λ (h : n ≤ s). le-ltb (s % 64) (n - 64 * (s / 64)) (omega arith) ∙ sym (le-ltb s n h))
+    (cases_lt s n)
 
-    whole : ltb (s % 64) (n - 64 * (s / 64)) ≡ ltb s n
-    whole = ⊎_elim
-        (λ (h : s < n). lt-ltb (s % 64) (n - 64 * (s / 64)) (omega arith) ∙ sym (lt-ltb s n h))
-        (λ (h : n ≤ s). le-ltb (s % 64) (n - 64 * (s / 64)) (omega arith) ∙ sym (le-ltb s n h))
-        (cases_lt s n)
+-- A chunk of a table.
+pub chunk_at : (n k : ℕ) (xs : List ℕ) (i j : ℕ) → i < k → j < n → get_or (get_or (first_chunks n k xs) i []) j 0 ≡ get_or xs (n * i + j) 0
+chunk_at n zero xs i j h l = absurd (omega arith)
+chunk_at n (suc k) xs zero j h l = search (rules, places)
+chunk_at n (suc k) xs (suc i) j h l =
+    chunk_at n k (drop n xs) i j (omega arith) l ∙ search (rules, places) ∙ ap (λ (x : ℕ). get_or xs x 0) (let e : n + (n * i + j) ≡ n * suc i + j = search rules in e)
 
--- Four words copied out of a table.
-pub four_at : (ws : List ℕ) (b q : ℕ) → q < 4 → get_or (get_or ws b 0 ∷ get_or ws (b + 1) 0 ∷ get_or ws (b + 2) 0 ∷ get_or ws (b + 3) 0 ∷ []) q 0 ≡ get_or ws (b + q) 0
-four_at ws b zero h = ap (λ (x : ℕ). get_or ws x 0) (sym (add-zero b))
-four_at ws b (suc zero) h = refl
-four_at ws b (suc (suc zero)) h = refl
-four_at ws b (suc (suc (suc zero))) h = refl
-four_at ws b (suc (suc (suc (suc q)))) h = absurd (omega arith)
+-- Rows that are made of two others word by word.
+module _ (a b r : List ℕ) where
+  abbrev Combined : (ℕ → ℕ → ℕ) → Type 0
+  Combined o = (q : ℕ) → q < 4 → get_or r q 0 ≡ o (get_or a q 0) (get_or b q 0)
+
+  marked_as : (o : ℕ → ℕ → ℕ) → Combined o → (s : ℕ) → s < 256 → marks r s ≡ bit (o (get_or a (s / 64) 0) (get_or b (s / 64) 0)) (s % 64)
+  marked_as o is s l = ap (λ (x : ℕ). bit x (s % 64)) (is (s / 64) (omega arith))
+
+  pub both_marked : Combined bit_and → (s : ℕ) → s < 256 → marks r s ≡ (marks a s && marks b s)
+  both_marked is s l = marked_as bit_and is s l ∙ and_bit (get_or a (s / 64) 0) (get_or b (s / 64) 0) (s % 64)
+
+  pub either_marked : Combined bit_or → (s : ℕ) → s < 256 → marks r s ≡ (marks a s || marks b s)
+  either_marked is s l = marked_as bit_or is s l ∙ or_bit (get_or a (s / 64) 0) (get_or b (s / 64) 0) (s % 64)
+
+  pub complemented : (k : Kripke) → Whole k (marks a) → Combined bit_xor → Complements k (marks b) (marks r)
+  complemented k whole is s l =
+      marked_as bit_xor is s l ∙ xor_bit (get_or a (s / 64) 0) (get_or b (s / 64) 0) (s % 64) ∙ ap (λ (x : Bool). not (beq x (marks b s))) (whole s l)

@@ -1,10 +1,14 @@
 -- What the private functions promise one another, in terms of tests of states: the bits of one row.
-use Rattle.std.specs.Prelude.{◌≡◌, ℕ, zero, suc, ◌+◌, ◌*◌, ◌/◌, ◌%◌, ◌<◌, ◌≤◌, Bool, true, false, cond, not, ◌&&◌, ◌||◌, List, [], ◌∷◌, length, nat_lt, slice_index, slice_index_or}
+use Rattle.std.specs.Prelude.{◌≡◌, ℕ, zero, suc, ◌+◌, ◌*◌, ◌/◌, ◌%◌, ◌<◌, ◌≤◌, Bool, true, false, cond, not, List, length, nat_lt, slice_index, slice_index_or}
 use Rattle.kripke.specs.Structure.{Kripke, size, successors}
 use Rattle.kripke.specs.Ctl.{Formula, truth, OnSome, OnEach, Until}
 use Rattle.kripke.specs.Nodes.{Operator, constant, asking, unary, binary, applied, formula, WellFormed}
 use Rattle.kripke.specs.declared.node.Node.{Node}
+use Rattle.std.specs.Bool.{beq}
+use Rattle.std.specs.List.{list_all, list_any}
 use Rattle.evaluator.specs.Rows.{bit, at, Tells}
+use Rattle.evaluator.specs.declared.quantifier.Quantifier.{Quantifier}
+use Rattle.evaluator.specs.declared.quantifier.Quantifier.TheVariants as quantifier
 
 -- The bit of state s in one row of four words.
 abbrev pub marks : List ℕ → ℕ → Bool
@@ -20,50 +24,56 @@ Whole k q = (s : ℕ) → s < 256 → q s ≡ nat_lt s (size k)
 abbrev pub Trim : Kripke → (ℕ → Bool) → Type 0
 Trim k q = (s : ℕ) → size k ≤ s → s < 256 → q s ≡ false
 
+-- The marks r are those of the states that q does not mark; past the states they are as in q.
+abbrev pub Complements : Kripke → (ℕ → Bool) → (ℕ → Bool) → Type 0
+Complements k q r = (s : ℕ) → s < 256 → r s ≡ not (beq (nat_lt s (size k)) (q s))
+
+-- The marks are the answers of a test at the states below n, and nothing past them is marked.
+pub record Collects (n : ℕ) (Answers : ℕ → Bool → Type 0) (q : ℕ → Bool) : Type 0 where
+  pub here : (s : ℕ) → s < n → Answers s (q s)
+  pub beyond : (s : ℕ) → n ≤ s → s < 256 → q s ≡ false
+
 -- How many of the numbers below n pass.
 unfoldable pub tally : (ℕ → Bool) → ℕ → ℕ
 tally q zero = 0
 tally q (suc n) = cond (q n) 1 0 + tally q n
 
--- Each member passes, or some member does.
-abbrev pub every : (ℕ → Bool) → List ℕ → Bool
-every q [] = true
-every q (x ∷ xs) = q x && every q xs
+-- Some member passes, or each.
+abbrev pub steps : Quantifier → (ℕ → Bool) → List ℕ → Bool
+steps quantifier.Exists q xs = list_any q xs
+steps quantifier.ForAll q xs = list_all q xs
 
-abbrev pub some : (ℕ → Bool) → List ℕ → Bool
-some q [] = false
-some q (x ∷ xs) = q x || some q xs
+-- On some path from s, or on each path.
+abbrev pub Paths : Kripke → Quantifier → ℕ → ((ℕ → ℕ) → Type 0) → Type 0
+Paths k quantifier.Exists s Φ = OnSome k s Φ
+Paths k quantifier.ForAll s Φ = OnEach k s Φ
 
-abbrev pub steps : Bool → (ℕ → Bool) → List ℕ → Bool
-steps true q xs = every q xs
-steps false q xs = some q xs
+-- The quantifier of the negation.
+abbrev pub dual : Quantifier → Quantifier
+dual quantifier.Exists = quantifier.ForAll
+dual quantifier.ForAll = quantifier.Exists
 
--- On each path from s, or on some path.
-abbrev pub Paths : Kripke → Bool → ℕ → ((ℕ → ℕ) → Type 0) → Type 0
-Paths k true s Φ = OnEach k s Φ
-Paths k false s Φ = OnSome k s Φ
-
--- The marks divide the states by what is said of paths: a marked state has it on each path (or on some),
--- an unmarked one has its negation on some path (or on each).
-pub record Divides (k : Kripke) (each : Bool) (Φ : (ℕ → ℕ) → Type 0) (q : ℕ → Bool) : Type 0 where
-  pub yes : (s : ℕ) → s < size k → q s ≡ true → Paths k each s Φ
-  pub no : (s : ℕ) → s < size k → q s ≡ false → Paths k (not each) s (λ p. Φ p → ⊥)
+-- The marks divide the states by what is said of paths: a marked state has it on some path (or on each),
+-- an unmarked one has its negation on each path (or on some).
+pub record Divides (k : Kripke) (e : Quantifier) (Φ : (ℕ → ℕ) → Type 0) (q : ℕ → Bool) : Type 0 where
+  pub yes : (s : ℕ) → s < size k → q s ≡ true → Paths k e s Φ
+  pub no : (s : ℕ) → s < size k → q s ≡ false → Paths k (dual e) s (λ p. Φ p → ⊥)
   pub beyond : Trim k q
 
 -- Each marked state comes to g by way of f.
-abbrev pub Sound : Kripke → Bool → (ℕ → Bool) → (ℕ → Bool) → (ℕ → Bool) → Type 0
-Sound k each f g q = (s : ℕ) → s < size k → q s ≡ true → Paths k each s (Until (Marked f) (Marked g))
+abbrev pub Sound : Kripke → Quantifier → (ℕ → Bool) → (ℕ → Bool) → (ℕ → Bool) → Type 0
+Sound k e f g q = (s : ℕ) → s < size k → q s ≡ true → Paths k e s (Until (Marked f) (Marked g))
 
 -- No unmarked state of f steps to marked states.
-abbrev pub Still : Kripke → Bool → (ℕ → Bool) → (ℕ → Bool) → Type 0
-Still k each f q = (s : ℕ) → s < size k → f s ≡ true → steps each q (successors k s) ≡ true → q s ≡ true
+abbrev pub Still : Kripke → Quantifier → (ℕ → Bool) → (ℕ → Bool) → Type 0
+Still k e f q = (s : ℕ) → s < size k → f s ≡ true → steps e q (successors k s) ≡ true → q s ≡ true
 
 -- A sweep made q out of p, and told whether it marked a state.
-pub record Sweeps (k : Kripke) (each : Bool) (f p q : ℕ → Bool) (changed : Bool) : Type 0 where
+pub record Sweeps (k : Kripke) (e : Quantifier) (f p q : ℕ → Bool) (changed : Bool) : Type 0 where
   pub above : (s : ℕ) → s < 256 → p s ≡ true → q s ≡ true
-  pub sound : (g : ℕ → Bool) → Sound k each f g p → Sound k each f g q
+  pub sound : (g : ℕ → Bool) → Sound k e f g p → Sound k e f g q
   pub trim : Trim k p → Trim k q
-  pub still : changed ≡ false → Still k each f q
+  pub still : changed ≡ false → Still k e f q
   pub more : changed ≡ true → tally p 256 < tally q 256
 
 -- The rows of a node's operands tell of the formulas that it names.

@@ -16,6 +16,7 @@ use kripke::node::Node;
 use kripke::refusal::Refusal;
 
 mod operators;
+pub mod quantifier;
 mod row;
 mod table;
 

@@ -1,61 +1,84 @@
 ghost use Rattle.std.specs.Prelude.{◌≡◌, ℕ, ◌<◌, ◌&&◌, length, nat_lt};
-ghost use Rattle.evaluator.specs.Marks.{Applies, Divides, Marked, Sweeps, Trim, Whole, marks, steps};
+ghost use Rattle.evaluator.specs.Marks.{Applies, Collects, Complements, Divides, Marked, Sweeps, Trim, Whole, marks, steps};
 ghost use Rattle.kripke.specs.Ctl.{Always, Next, Until};
-ghost use Rattle.kripke.specs.Nodes.{operator};
-ghost use Rattle.kripke.specs.Structure.{answer, size, successors};
+ghost use Rattle.kripke.specs.Nodes.{operator, operators};
+ghost use Rattle.kripke.specs.Structure.{answer, or_first, size, successors};
 
-use crate::row::{both, differ, either, mark, marked};
+use crate::quantifier::Quantifier;
+use crate::row::{Row, combine, first, mark, marked};
 use kripke::label::Label;
 use kripke::model::Model;
 use kripke::node::Node;
+use kripke::operator::Operator;
 
-// Whether each successor of s is marked, or some successor.
-fn onward<M: Model>(model: &M, each: bool, s: usize, row: &[u64]) -> bool
-    requires { (length row.now ≡ 4) × (s < size (M.meaning model.now)) }
-    ensures { result ≡ steps each (marks row.now) (successors (M.meaning model.now) s) }
+// Every state.
+fn every_state<M: Model>(model: &M) -> Row
+    ensures { Whole (M.meaning model.now) (marks result) }
 {
-    for i in 0..model.degree(s) {
-        if marked(row, model.successor(s, i)) != each {
-            return !each;
+    first(model.states())
+}
+
+// The states that pass a test.
+fn states_where<M: Model, F: Fn(usize) -> bool>(model: &M, test: F, row: &mut Row)
+    requires { F.IsAlwaysCallable test }
+    ensures { Collects (size (M.meaning model.now)) (F.post test) (marks row.new) }
+{
+    *row = [0; 4];
+    for s in 0..model.states() {
+        if test(s) {
+            mark(row, s);
         }
     }
-    each
+}
+
+// The states that f lacks.
+fn complement<M: Model>(model: &M, f: &Row, row: &mut Row)
+    ensures { Complements (M.meaning model.now) (marks f.now) (marks row.new) }
+{
+    combine(&every_state(model), f, |x, y| x ^ y, row);
 }
 
 // The states whose label answers a question with yes.
-fn ask<M: Model>(model: &M, question: usize, row: &mut [u64])
-    requires { length row.old ≡ 4 }
+fn ask<M: Model>(model: &M, question: usize, row: &mut Row)
     ensures { (s : ℕ) → s < 256 → marks row.new s ≡ (nat_lt s (size (M.meaning model.now)) && answer (M.meaning model.now) s question) }
 {
-    row.fill(0);
-    for s in 0..model.states() {
-        if model.label(s).answer(question) {
-            mark(row, s);
-        }
+    states_where(model, |s| model.label(s).answer(question), row);
+}
+
+// Whether successor number i of s is marked.
+fn successor_marked<M: Model>(model: &M, s: usize, i: usize, row: &Row) -> bool
+    ensures { result ≡ marks row.now (or_first (successors (M.meaning model.now) s) i 0) }
+{
+    marked(row, model.successor(s, i))
+}
+
+// Whether some successor of s is marked, or each. It runs for each state of each sweep.
+#[inline(always)]
+fn onward<M: Model>(model: &M, quantifier: Quantifier, s: usize, row: &Row) -> bool
+    ensures { result ≡ steps quantifier (marks row.now) (successors (M.meaning model.now) s) }
+{
+    let mut numbers = 0..model.degree(s);
+    let leads = |i| successor_marked(model, s, i, row);
+    match quantifier {
+        Quantifier::Exists => numbers.any(leads),
+        Quantifier::ForAll => numbers.all(leads),
     }
 }
 
-// EX f, and AX f where each path counts.
-fn next<M: Model>(model: &M, each: bool, f: [u64; 4], row: &mut [u64])
-    requires { length row.old ≡ 4 }
-    ensures { Divides (M.meaning model.now) each (Next (Marked (marks f))) (marks row.new) }
+// EX f, or AX f.
+fn next<M: Model>(model: &M, quantifier: Quantifier, f: &Row, row: &mut Row)
+    ensures { Divides (M.meaning model.now) quantifier (Next (Marked (marks f.now))) (marks row.new) }
 {
-    row.fill(0);
-    for s in 0..model.states() {
-        if onward(model, each, s, &f) {
-            mark(row, s);
-        }
-    }
+    states_where(model, |s| onward(model, quantifier, s, f), row);
 }
 
 // Marks, from the last state down, each state of f that steps to marked states. Tells whether it marked one.
-fn sweep<M: Model>(model: &M, each: bool, f: [u64; 4], row: &mut [u64]) -> bool
-    requires { length row.old ≡ 4 }
-    ensures { Sweeps (M.meaning model.now) each (marks f) (marks row.old) (marks row.new) result }
+fn sweep<M: Model>(model: &M, quantifier: Quantifier, f: &Row, row: &mut Row) -> bool
+    ensures { Sweeps (M.meaning model.now) quantifier (marks f.now) (marks row.old) (marks row.new) result }
 {
     let mut changed = false;
     for s in (0..model.states()).rev() {
-        if !marked(row, s) && marked(&f, s) && onward(model, each, s, row) {
+        if !marked(row, s) && marked(f, s) && onward(model, quantifier, s, row) {
             mark(row, s);
             changed = true;
         }
@@ -63,53 +86,45 @@ fn sweep<M: Model>(model: &M, each: bool, f: [u64; 4], row: &mut [u64]) -> bool
     changed
 }
 
-// E[f U g], and A[f U g] where each path counts: sweeps from g on, until one marks nothing.
-fn until<M: Model>(model: &M, each: bool, f: [u64; 4], g: [u64; 4], row: &mut [u64])
-    requires { length row.old ≡ 4 }
-    ensures { Trim (M.meaning model.now) (marks g) → Divides (M.meaning model.now) each (Until (Marked (marks f)) (Marked (marks g))) (marks row.new) }
+// E[f U g], or A[f U g]: sweeps from g on, until one marks nothing.
+fn until<M: Model>(model: &M, quantifier: Quantifier, f: &Row, g: &Row, row: &mut Row)
+    ensures { Trim (M.meaning model.now) (marks g.now) → Divides (M.meaning model.now) quantifier (Until (Marked (marks f.now)) (Marked (marks g.now))) (marks row.new) }
 {
-    row.copy_from_slice(&g);
-    while sweep(model, each, f, row) {}
+    *row = *g;
+    while sweep(model, quantifier, f, row) {}
 }
 
-// EG f, and AG f where each path counts: a state has it where not each path (not some path) comes to a state that lacks f.
-fn always<M: Model>(model: &M, each: bool, full: [u64; 4], f: [u64; 4], row: &mut [u64])
-    requires { (length row.old ≡ 4) × (Whole (M.meaning model.now) (marks full)) }
-    ensures { Trim (M.meaning model.now) (marks f) → Divides (M.meaning model.now) each (Always (Marked (marks f))) (marks row.new) }
+// EG f, or AG f: a state has it where not each path (not some path) comes to a state that lacks f.
+fn always<M: Model>(model: &M, quantifier: Quantifier, f: &Row, row: &mut Row)
+    ensures { Trim (M.meaning model.now) (marks f.now) → Divides (M.meaning model.now) quantifier (Always (Marked (marks f.now))) (marks row.new) }
 {
+    let every = every_state(model);
     let mut lacking = [0; 4];
-    differ(full, f, &mut lacking);
+    complement(model, f, &mut lacking);
     let mut leaving = [0; 4];
-    until(model, !each, full, lacking, &mut leaving);
-    differ(full, leaving, row);
+    until(model, quantifier.dual(), &every, &lacking, &mut leaving);
+    complement(model, &leaving, row);
 }
 
-// The row of a node, from its operands' rows; full has every state marked.
-pub(crate) fn apply<M: Model>(
-    model: &M,
-    node: Node,
-    full: [u64; 4],
-    a: [u64; 4],
-    b: [u64; 4],
-    row: &mut [u64],
-)
-    requires { (length row.old ≡ 4) × ((Whole (M.meaning model.now) (marks full)) × (node.code < 13)) }
-    ensures { Applies (M.meaning model.now) (operator node) node.a node.b (marks a) (marks b) (marks row.new) }
+// The row of a node, from its operands' rows.
+pub(crate) fn apply<M: Model>(model: &M, node: Node, a: &Row, b: &Row, row: &mut Row)
+    requires { node.code < length operators }
+    ensures { Applies (M.meaning model.now) (operator node) node.a node.b (marks a.now) (marks b.now) (marks row.new) }
 {
-    match node.code {
-        0 => row.copy_from_slice(&full),
-        1 => ask(model, node.a as usize, row),
-        2 => differ(full, a, row),
-        3 => both(a, b, row),
-        4 => either(a, b, row),
-        5 => next(model, false, a, row),
-        6 => next(model, true, a, row),
-        7 => until(model, false, full, a, row),
-        8 => until(model, true, full, a, row),
-        9 => always(model, false, full, a, row),
-        10 => always(model, true, full, a, row),
-        11 => until(model, false, a, b, row),
-        12 => until(model, true, a, b, row),
-        _ => unreachable(),
+    let every = every_state(model);
+    match Operator::try_from(node.code).unwrap() {
+        Operator::Truth => *row = every,
+        Operator::Question => ask(model, usize::from(node.a), row),
+        Operator::Not => complement(model, a, row),
+        Operator::And => combine(a, b, |x, y| x & y, row),
+        Operator::Or => combine(a, b, |x, y| x | y, row),
+        Operator::EX => next(model, Quantifier::Exists, a, row),
+        Operator::AX => next(model, Quantifier::ForAll, a, row),
+        Operator::EF => until(model, Quantifier::Exists, &every, a, row),
+        Operator::AF => until(model, Quantifier::ForAll, &every, a, row),
+        Operator::EG => always(model, Quantifier::Exists, a, row),
+        Operator::AG => always(model, Quantifier::ForAll, a, row),
+        Operator::EU => until(model, Quantifier::Exists, a, b, row),
+        Operator::AU => until(model, Quantifier::ForAll, a, b, row),
     }
 }

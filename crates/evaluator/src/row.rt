@@ -1,19 +1,24 @@
-ghost use Rattle.std.specs.Prelude.{◌≡◌, ℕ, ◌+◌, ◌*◌, ◌<◌, ◌≤◌, not, ◌&&◌, ◌||◌, length, ◌==◌, nat_lt};
+ghost use Rattle.std.specs.Prelude.{◌≡◌, ℕ, ◌+◌, ◌*◌, ◌<◌, ◌≤◌, ◌||◌, length, ◌==◌, nat_lt, slice_index};
 ghost use Rattle.evaluator.specs.Rows.{at, bit};
 ghost use Rattle.evaluator.specs.Marks.{marks, tally};
-ghost use Rattle.std.specs.Bool.{beq};
+
+use std::array;
+
+// A set of states, as it lies in the words of a table: state s is bit s mod 64 of word s div 64.
+pub(crate) type Row = [u64; 4];
 
 // Whether state s is marked.
-pub(crate) fn marked(row: &[u64], s: usize) -> bool
-    requires { (length row.now ≡ 4) × (s < 256) }
+pub(crate) fn marked(row: &Row, s: usize) -> bool
+    requires { s < 256 }
     ensures { result ≡ marks row.now s }
 {
     (row[s / 64] >> (s % 64)) & 1 == 1
 }
 
 // Marks state s.
-pub(crate) fn mark(row: &mut [u64], s: usize)
-    requires { (length row.old ≡ 4) × (s < 256) }
+#[tactic(auto, using(crate::proofs::Rows::marked_row))]
+pub(crate) fn mark(row: &mut Row, s: usize)
+    requires { s < 256 }
     ensures { (t : ℕ) → t < 256 → marks row.new t ≡ (t == s || marks row.old t) }
 {
     row[s / 64] |= 1 << (s % 64);
@@ -27,64 +32,33 @@ fn low(m: usize) -> u64
 }
 
 // The row in which the first n states are marked.
-pub(crate) fn full(n: usize) -> [u64; 4]
+#[tactic(auto, using(crate::proofs::Rows::first_row))]
+pub(crate) fn first(n: usize) -> Row
     ensures { (s : ℕ) → s < 256 → marks result s ≡ nat_lt s n }
 {
-    [
-        low(n),
-        low(n.saturating_sub(64)),
-        low(n.saturating_sub(128)),
-        low(n.saturating_sub(192)),
-    ]
+    array::from_fn(|q| low(n.saturating_sub(64 * q)))
 }
 
-// Marks what a and b both mark.
-pub(crate) fn both(a: [u64; 4], b: [u64; 4], row: &mut [u64])
-    requires { length row.old ≡ 4 }
-    ensures { (s : ℕ) → s < 256 → marks row.new s ≡ (marks a s && marks b s) }
+// Writes what f makes of the words of a and b, word by word.
+pub(crate) fn combine<F: Fn(u64, u64) -> u64>(a: &Row, b: &Row, f: F, row: &mut Row)
+    requires { F.IsAlwaysCallable f }
+    ensures { (q : ℕ) → q < 4 → F.post f (slice_index a.now q) (slice_index b.now q) (slice_index row.new q) }
 {
-    for j in 0..4usize {
-        row[j] = a[j] & b[j];
-    }
-}
-
-// Marks what a or b marks.
-pub(crate) fn either(a: [u64; 4], b: [u64; 4], row: &mut [u64])
-    requires { length row.old ≡ 4 }
-    ensures { (s : ℕ) → s < 256 → marks row.new s ≡ (marks a s || marks b s) }
-{
-    for j in 0..4usize {
-        row[j] = a[j] | b[j];
-    }
-}
-
-// Marks what one of a and b marks and the other does not.
-pub(crate) fn differ(a: [u64; 4], b: [u64; 4], row: &mut [u64])
-    requires { length row.old ≡ 4 }
-    ensures { (s : ℕ) → s < 256 → marks row.new s ≡ not (beq (marks a s) (marks b s)) }
-{
-    for j in 0..4usize {
-        row[j] = a[j] ^ b[j];
-    }
+    *row = array::from_fn(|q| f(a[q], b[q]));
 }
 
 // Row i of a table.
-pub(crate) fn read(words: &[u64], i: usize) -> [u64; 4]
+#[tactic(auto, using(crate::proofs::Rows::chunk_at))]
+pub(crate) fn read(words: &[u64], i: usize) -> Row
     requires { 4 * i + 4 ≤ length words.now }
     ensures { (s : ℕ) → s < 256 → marks result s ≡ at words.now i s }
 {
-    [
-        words[4 * i],
-        words[4 * i + 1],
-        words[4 * i + 2],
-        words[4 * i + 3],
-    ]
+    words.as_chunks().0[i]
 }
 
 // How many states are marked.
-pub(crate) fn count(row: &[u64]) -> u32
-    requires { length row.now ≡ 4 }
+pub(crate) fn count(row: &Row) -> u32
     ensures { result ≡ tally (marks row.now) 256 }
 {
-    row[0].count_ones() + row[1].count_ones() + row[2].count_ones() + row[3].count_ones()
+    row.iter().map(|word| word.count_ones()).sum()
 }

@@ -4,11 +4,13 @@
 
 #[cfg(test)]
 mod tests {
-    use evaluator::evaluate;
+    use evaluator::{Evaluation, evaluate};
     use image::slot::Slot;
     use image::stored::StoredModel;
     use kripke::model::Model;
-    use kripke::node::Node;
+    use kripke::node::{MOST_NODES, Node};
+    use kripke::operator::Operator;
+    use kripke::refusal::{Cause, Layer};
     use labels::signal::SignalWord;
     use rules::model::RuleModel;
     use rules::rule::Rule;
@@ -25,10 +27,6 @@ mod tests {
         }
     }
 
-    fn node(code: u8, a: u16, b: u16) -> Node {
-        Node { code, a, b }
-    }
-
     fn ruled(bits: usize, initial: usize, rules: &[Rule]) -> Result<RuleModel, Fail> {
         let mut model = RuleModel::new();
         match model.load(bits, initial, rules) {
@@ -43,18 +41,12 @@ mod tests {
         bits: usize,
         initial: usize,
         rules: &[Rule],
-        number: u8,
+        cause: Cause,
         place: usize,
     ) -> Result<(), Fail> {
         let mut model = ruled(2, 3, &[rule(1, 0, 1, 0)])?;
-        match model.load(bits, initial, rules) {
-            Ok(()) => return Err(Fail::new("the rules are not refused")),
-            Err(refusal) => {
-                assert_eq!(rt; refusal.number(), number);
-                assert_eq!(rt; refusal.place, place);
-                assert_eq!(rt; refusal.layer_number(), 3);
-            }
-        }
+        let refusal = Layer::Rules.refusal(cause, place);
+        assert_eq!(rt; model.load(bits, initial, rules), Err(refusal));
         assert_eq!(rt; model.label(2), SignalWord(2));
         assert!(rt;
             model.states() == 4
@@ -68,9 +60,16 @@ mod tests {
     #[test]
     fn rule_limits(rt: HostRuntime) -> Result<(), Fail> {
         for (bits, initial) in [(0, 0), (9, 0), (2, 4)] {
-            refused(&rt, bits, initial, &[rule(0, 1, 0, 0)], 7, 0)?;
+            refused(
+                &rt,
+                bits,
+                initial,
+                &[rule(0, 1, 0, 0)],
+                Cause::RuleLimits,
+                0,
+            )?;
         }
-        refused(&rt, 8, 0, &[rule(0, 0, 0, 0); 17], 7, 0)?;
+        refused(&rt, 8, 0, &[rule(0, 0, 0, 0); 17], Cause::RuleLimits, 0)?;
         let largest = ruled(8, 255, &[rule(255, 255, 0, 255); 16])?;
         assert!(rt;
             largest.states() == 256 && largest.degree(255) == 16 && largest.successor(255, 15) == 0
@@ -91,7 +90,8 @@ mod tests {
             rule(0, 0, 0, 4),
         ];
         for unlawful in bad {
-            refused(&rt, 2, 0, &[rule(3, 3, 1, 2), unlawful, unlawful], 8, 1)?;
+            let rules = [rule(3, 3, 1, 2), unlawful, unlawful];
+            refused(&rt, 2, 0, &rules, Cause::UnlawfulRule, 1)?;
         }
         Ok(())
     }
@@ -121,46 +121,31 @@ mod tests {
     }
 
     // As many words, each with its number.
-    fn counted(heap: Global, count: usize) -> Result<Vec<u64>, AllocError> {
-        let mut words = Vec::new(heap);
-        for j in 0..count {
-            words.push(j as u64)?;
+    fn numbered(heap: Global, count: usize) -> Result<Vec<u64>, AllocError> {
+        (0..count).map(|j| j as u64).collect(heap)
+    }
+
+    // A hundred words of a table with these rows in their first words, and the words past the rows with their numbers.
+    fn with_rows(heap: Global, rows: &[u64]) -> Result<Vec<u64>, AllocError> {
+        let mut words = numbered(heap, 100)?;
+        for (row, first) in words.as_chunks_mut().0.iter_mut().zip(rows) {
+            *row = [*first, 0, 0, 0];
         }
         Ok(words)
     }
 
-    // Word j of a table with these rows in their first words, and the words past the rows with their numbers.
-    fn wanted(rows: &[u64], j: usize) -> u64 {
-        if j / 4 >= rows.len() {
-            j as u64
-        } else if j % 4 == 0 {
-            rows[j / 4]
-        } else {
-            0
-        }
-    }
-
-    // The table is evaluated to these rows, and the root holds at the initial state or not, and at so many states.
+    // The table is evaluated to these rows, and the root to this.
     fn evaluated<M: Model>(
         rt: &impl Abort,
         heap: Global,
         model: &M,
         nodes: &[Node],
         rows: &[u64],
-        holds: bool,
-        count: u32,
+        root: Evaluation,
     ) -> Result<(), Fail> {
-        let mut words = counted(heap, 100)?;
-        match evaluate(model, nodes, words.as_mut_slice()) {
-            Ok(evaluation) => {
-                assert_eq!(rt; evaluation.holds, holds);
-                assert_eq!(rt; evaluation.count, count);
-            }
-            Err(_) => return Err(Fail::new("the table is refused")),
-        }
-        for (j, word) in words.iter().enumerate() {
-            assert_eq!(rt; *word, wanted(rows, j));
-        }
+        let mut words = numbered(heap, 100)?;
+        assert_eq!(rt; evaluate(model, nodes, words.as_mut_slice()), Ok(root));
+        assert_eq!(rt; words, with_rows(heap, rows)?);
         Ok(())
     }
 
@@ -170,56 +155,68 @@ mod tests {
         heap: Global,
         nodes: &[Node],
         count: usize,
-        number: u8,
+        cause: Cause,
         place: usize,
     ) -> Result<(), Fail> {
-        let mut words = counted(heap, count)?;
+        let mut words = numbered(heap, count)?;
+        let refusal = Layer::Evaluation.refusal(cause, place);
+        assert_eq!(rt;
+            evaluate(&RuleModel::new(), nodes, words.as_mut_slice()),
+            Err(refusal)
+        );
+        assert_eq!(rt; words, numbered(heap, count)?);
+        Ok(())
+    }
+
+    // The table is evaluated on a new rule model into so many words, and its root holds at so many states.
+    fn accepted(
+        rt: &impl Abort,
+        heap: Global,
+        nodes: &[Node],
+        words: usize,
+        count: u32,
+    ) -> Result<(), Fail> {
+        let mut words = numbered(heap, words)?;
         match evaluate(&RuleModel::new(), nodes, words.as_mut_slice()) {
-            Ok(_) => return Err(Fail::new("the table is not refused")),
-            Err(refusal) => {
-                assert_eq!(rt; refusal.number(), number);
-                assert_eq!(rt; refusal.place, place);
-                assert_eq!(rt; refusal.layer_number(), 5);
-            }
-        }
-        for (j, word) in words.iter().enumerate() {
-            assert_eq!(rt; *word, j as u64);
+            Ok(evaluation) => assert_eq!(rt; evaluation.count, count),
+            Err(_) => return Err(Fail::new("the table is refused")),
         }
         Ok(())
     }
 
+    // A node whose code is no operator's.
+    const UNKNOWN: Node = Node {
+        code: 13,
+        a: 0,
+        b: 0,
+    };
+
     #[test]
     fn node_counts(rt: HostRuntime) -> Result<(), Fail> {
         let heap = rt.alloc();
-        rejected(&rt, heap, &[], 8, 14, 0)?;
-        let mut many = Vec::new(heap);
-        for _ in 0..2045 {
-            many.push(node(0, 0, 0))?;
-        }
-        let mut words = counted(heap, 8180)?;
-        match evaluate(&RuleModel::new(), many.as_slice(), words.as_mut_slice()) {
-            Ok(evaluation) => assert_eq!(rt; evaluation.count, 2),
-            Err(_) => return Err(Fail::new("2,045 nodes are refused")),
-        }
-        rejected(&rt, heap, many.as_slice(), 8179, 16, 8179)?;
-        many.push(node(13, 0, 0))?;
-        rejected(&rt, heap, many.as_slice(), 4, 14, 0)
+        rejected(&rt, heap, &[], 8, Cause::NodeCount, 0)?;
+        let mut many = vec![in heap; Node::default(); MOST_NODES]?;
+        accepted(&rt, heap, many.as_slice(), 8180, 2)?;
+        rejected(&rt, heap, many.as_slice(), 8179, Cause::FewWords, 8179)?;
+        many.push(UNKNOWN)?;
+        rejected(&rt, heap, many.as_slice(), 4, Cause::NodeCount, 0)
     }
 
     #[test]
     fn bad_nodes(rt: HostRuntime) -> Result<(), Fail> {
         let bad = [
-            node(13, 0, 0),
-            node(0, 1, 0),
-            node(0, 0, 1),
-            node(1, 32, 0),
-            node(1, 0, 1),
-            node(2, 1, 0),
-            node(7, 0, 1),
-            node(11, 0, 1),
+            UNKNOWN,
+            Node::new(Operator::Truth, 1, 0),
+            Node::new(Operator::Truth, 0, 1),
+            Node::new(Operator::Question, 32, 0),
+            Node::new(Operator::Question, 0, 1),
+            Node::new(Operator::Not, 1, 0),
+            Node::new(Operator::EF, 0, 1),
+            Node::new(Operator::EU, 0, 1),
         ];
         for second in bad {
-            rejected(&rt, rt.alloc(), &[node(0, 0, 0), second, second], 4, 15, 1)?;
+            let nodes = [Node::default(), second, second];
+            rejected(&rt, rt.alloc(), &nodes, 4, Cause::BadNode, 1)?;
         }
         Ok(())
     }
@@ -228,22 +225,15 @@ mod tests {
     fn few_words(rt: HostRuntime) -> Result<(), Fail> {
         let heap = rt.alloc();
         let nodes = [
-            node(1, 0, 0),
-            node(1, 1, 0),
-            node(1, 2, 0),
-            node(2, 2, 0),
-            node(3, 1, 3),
-            node(11, 0, 4),
+            Node::new(Operator::Question, 0, 0),
+            Node::new(Operator::Question, 1, 0),
+            Node::new(Operator::Question, 2, 0),
+            Node::new(Operator::Not, 2, 0),
+            Node::new(Operator::And, 1, 3),
+            Node::new(Operator::EU, 0, 4),
         ];
-        rejected(&rt, heap, &nodes, 23, 16, 23)?;
-        let mut words = counted(heap, 24)?;
-        match evaluate(&RuleModel::new(), &nodes, words.as_mut_slice()) {
-            Ok(evaluation) => {
-                assert_eq!(rt; evaluation.count, 0);
-                Ok(())
-            },
-            Err(_) => Err(Fail::new("24 words are refused")),
-        }
+        rejected(&rt, heap, &nodes, 23, Cause::FewWords, 23)?;
+        accepted(&rt, heap, &nodes, 24, 0)
     }
 
     // Every operator on eight states, 0 -> 1 -> 2 -> 3 -> 5, 2 -> 4, 4 -> 5 -> 6 -> 7, the last four also to themselves.
@@ -260,42 +250,56 @@ mod tests {
             ],
         )?;
         let nodes = [
-            node(0, 0, 0),
-            node(1, 0, 0),
-            node(1, 1, 0),
-            node(1, 2, 0),
-            node(2, 1, 0),
-            node(3, 2, 4),
-            node(4, 1, 3),
-            node(5, 5, 0),
-            node(6, 6, 0),
-            node(7, 3, 0),
-            node(9, 4, 0),
-            node(10, 3, 0),
-            node(11, 2, 1),
-            node(8, 1, 0),
-            node(12, 4, 1),
+            Node::new(Operator::Truth, 0, 0),
+            Node::new(Operator::Question, 0, 0),
+            Node::new(Operator::Question, 1, 0),
+            Node::new(Operator::Question, 2, 0),
+            Node::new(Operator::Not, 1, 0),
+            Node::new(Operator::And, 2, 4),
+            Node::new(Operator::Or, 1, 3),
+            Node::new(Operator::EX, 5, 0),
+            Node::new(Operator::AX, 6, 0),
+            Node::new(Operator::EF, 3, 0),
+            Node::new(Operator::EG, 4, 0),
+            Node::new(Operator::AG, 3, 0),
+            Node::new(Operator::EU, 2, 1),
+            Node::new(Operator::AF, 1, 0),
+            Node::new(Operator::AU, 4, 1),
         ];
         let rows = [
             255, 170, 204, 240, 85, 68, 250, 98, 253, 255, 84, 240, 238, 171, 171,
         ];
-        evaluated(&rt, rt.alloc(), &model, &nodes, &rows, true, 5)
+        let root = Evaluation {
+            holds: true,
+            count: 5,
+        };
+        evaluated(&rt, rt.alloc(), &model, &nodes, &rows, root)
     }
 
     // State 0 stays or goes on to state 1, which stays: a rule model and a stored one.
     #[test]
     fn both_kinds(rt: HostRuntime) -> Result<(), Fail> {
         let heap = rt.alloc();
-        let nodes = [node(1, 0, 0), node(7, 0, 0), node(10, 1, 0), node(8, 0, 0)];
+        let nodes = [
+            Node::new(Operator::Question, 0, 0),
+            Node::new(Operator::EF, 0, 0),
+            Node::new(Operator::AG, 1, 0),
+            Node::new(Operator::AF, 0, 0),
+        ];
+        let rows = [2, 3, 3, 2];
+        let root = Evaluation {
+            holds: false,
+            count: 1,
+        };
         let model = ruled(1, 0, &[rule(1, 0, 0, 0), rule(1, 0, 1, 0)])?;
-        evaluated(&rt, heap, &model, &nodes, &[2, 3, 3, 2], false, 1)?;
+        evaluated(&rt, heap, &model, &nodes, &rows, root)?;
         let image = [
             1, 0, 2, 0, 3, 0, 0, 0, 0, 0, 0, 0, 1, 0, 0, 0, 1, 0, 0, 0, 3, 0, 0, 0, 0, 0, 2, 0, 1,
             0, 0, 0, 1, 0, 0, 0,
         ];
         let mut stored = StoredModel::<SignalWord>::new(heap)?;
         match stored.load(heap, &image, Slot::First) {
-            Ok(()) => evaluated(&rt, heap, &stored, &nodes, &[2, 3, 3, 2], false, 1),
+            Ok(()) => evaluated(&rt, heap, &stored, &nodes, &rows, root),
             Err(_) => Err(Fail::new("the image is refused")),
         }
     }

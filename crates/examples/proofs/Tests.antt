@@ -7,6 +7,8 @@ use Rattle.kripke.specs.Nodes.{Operator, constant, asking, unary, binary, operat
 use Rattle.kripke.specs.Tests.{every, below, same, settled}
 use Rattle.kripke.specs.declared.node.Node.{Node}
 use Rattle.evaluator.specs.Marks.{steps}
+use Rattle.evaluator.specs.declared.quantifier.Quantifier.{Quantifier}
+use Rattle.evaluator.specs.declared.quantifier.Quantifier.TheVariants as quantifier
 use Rattle.reader.specs.Tokens.{Stream, rest}
 use Rattle.reader.specs.Grammar.{Mark, mark}
 use Rattle.reader.specs.Phrases.{applied}
@@ -61,15 +63,15 @@ whole k s = ltb s (size k)
 abbrev pub turned : Kripke → (ℕ → Bool) → ℕ → Bool
 turned k q s = not (beq (whole k s) (q s))
 
-abbrev pub grown : Kripke → Bool → (ℕ → Bool) → (ℕ → Bool) → ℕ → ℕ → Bool
-grown k each f g zero s = g s
-grown k each f g (suc j) s = grown k each f g j s || (f s && steps each (grown k each f g j) (successors k s))
+abbrev pub grown : Kripke → Quantifier → (ℕ → Bool) → (ℕ → Bool) → ℕ → ℕ → Bool
+grown k e f g zero s = g s
+grown k e f g (suc j) s = grown k e f g j s || (f s && steps e (grown k e f g j) (successors k s))
 
-abbrev pub until : Kripke → Bool → (ℕ → Bool) → (ℕ → Bool) → ℕ → Bool
-until k each f g = grown k each f g (size k)
+abbrev pub until : Kripke → Quantifier → (ℕ → Bool) → (ℕ → Bool) → ℕ → Bool
+until k e f g = grown k e f g (size k)
 
-abbrev pub still : Kripke → Bool → (ℕ → Bool) → (ℕ → Bool) → Bool
-still k each f q = below (λ s. not (f s && steps each q (successors k s)) || q s) (size k)
+abbrev pub still : Kripke → Quantifier → (ℕ → Bool) → (ℕ → Bool) → Bool
+still k e f q = below (λ s. not (f s && steps e q (successors k s)) || q s) (size k)
 
 -- The states of a structure where a formula holds, and whether all its sweeps were enough.
 unfoldable pub marks : Kripke → Formula → ℕ → Bool
@@ -78,14 +80,14 @@ marks k (question i) s = whole k s && answer k s i
 marks k (Formula.not f) s = turned k (marks k f) s
 marks k (and f g) s = marks k f s && marks k g s
 marks k (or f g) s = marks k f s || marks k g s
-marks k (EX f) s = whole k s && steps false (marks k f) (successors k s)
-marks k (AX f) s = whole k s && steps true (marks k f) (successors k s)
-marks k (EF f) s = until k false (whole k) (marks k f) s
-marks k (AF f) s = until k true (whole k) (marks k f) s
-marks k (EG f) s = turned k (until k true (whole k) (turned k (marks k f))) s
-marks k (AG f) s = turned k (until k false (whole k) (turned k (marks k f))) s
-marks k (EU f g) s = until k false (marks k f) (marks k g) s
-marks k (AU f g) s = until k true (marks k f) (marks k g) s
+marks k (EX f) s = whole k s && steps quantifier.Exists (marks k f) (successors k s)
+marks k (AX f) s = whole k s && steps quantifier.ForAll (marks k f) (successors k s)
+marks k (EF f) s = until k quantifier.Exists (whole k) (marks k f) s
+marks k (AF f) s = until k quantifier.ForAll (whole k) (marks k f) s
+marks k (EG f) s = turned k (until k quantifier.ForAll (whole k) (turned k (marks k f))) s
+marks k (AG f) s = turned k (until k quantifier.Exists (whole k) (turned k (marks k f))) s
+marks k (EU f g) s = until k quantifier.Exists (marks k f) (marks k g) s
+marks k (AU f g) s = until k quantifier.ForAll (marks k f) (marks k g) s
 
 unfoldable pub enough : Kripke → Formula → Bool
 enough k truth = true
@@ -95,12 +97,12 @@ enough k (and f g) = enough k f && enough k g
 enough k (or f g) = enough k f && enough k g
 enough k (EX f) = enough k f
 enough k (AX f) = enough k f
-enough k (EF f) = enough k f && still k false (whole k) (until k false (whole k) (marks k f))
-enough k (AF f) = enough k f && still k true (whole k) (until k true (whole k) (marks k f))
-enough k (EG f) = enough k f && still k true (whole k) (until k true (whole k) (turned k (marks k f)))
-enough k (AG f) = enough k f && still k false (whole k) (until k false (whole k) (turned k (marks k f)))
-enough k (EU f g) = (enough k f && enough k g) && still k false (marks k f) (until k false (marks k f) (marks k g))
-enough k (AU f g) = (enough k f && enough k g) && still k true (marks k f) (until k true (marks k f) (marks k g))
+enough k (EF f) = enough k f && still k quantifier.Exists (whole k) (until k quantifier.Exists (whole k) (marks k f))
+enough k (AF f) = enough k f && still k quantifier.ForAll (whole k) (until k quantifier.ForAll (whole k) (marks k f))
+enough k (EG f) = enough k f && still k quantifier.ForAll (whole k) (until k quantifier.ForAll (whole k) (turned k (marks k f)))
+enough k (AG f) = enough k f && still k quantifier.Exists (whole k) (until k quantifier.Exists (whole k) (turned k (marks k f)))
+enough k (EU f g) = (enough k f && enough k g) && still k quantifier.Exists (marks k f) (until k quantifier.Exists (marks k f) (marks k g))
+enough k (AU f g) = (enough k f && enough k g) && still k quantifier.ForAll (marks k f) (until k quantifier.ForAll (marks k f) (marks k g))
 
 -- The limits of a formula's text.
 abbrev pub asked : ℕ → Token → Bool

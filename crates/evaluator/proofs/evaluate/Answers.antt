@@ -1,4 +1,4 @@
-use Rattle.std.proofs.Common.{ℕ, length, subst}
+use Rattle.std.proofs.Common.{ℕ, length, rules, subst}
 use Rattle.evaluator.specs.Marks.{Ready, marks}
 use Rattle.evaluator.proofs.Breaches.{clean}
 use Rattle.evaluator.proofs.Numbers.{evaluated}
@@ -10,5 +10,5 @@ returns g c =
     subst (λ (q : ℕ). Ready q c.args.nodes.now (length c.args.words.now)) c.questions.ensures c.in_ok-check.ensures.1 in (
       clean _ _ _ ready,
       evaluated _ _ (g.met.M.Model.lawful c.args.model.now) _ _ _ (marks c.read-root.result) c.initial.result _
-          ready.some c.fill.ensures c.read-root.ensures c.initial.ensures c.marked.ensures c.count.ensures,
+          ready.some (search rules) (search rules) (search rules) (search rules) (search rules),
     )

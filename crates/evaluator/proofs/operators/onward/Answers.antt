@@ -1,31 +1,23 @@
-use Rattle.std.proofs.Common.{ℕ, ◌<◌, List, length, refl, arith}
-use Rattle.kripke.specs.Structure.{Kripke, successors, or_first}
+use Rattle.std.proofs.Common.{ℕ, List, refl, rules, tests}
+use Rattle.std.proofs.lemmas.Iterator.{YieldsList-from_range}
+use Rattle.std.proofs.lemmas.Iterator.Search.{all_from_yields_List, any_from_yields_List}
+use Rattle.kripke.specs.Structure.{or_first, successors}
 use Rattle.evaluator.specs.Marks.{marks}
-use Rattle.evaluator.proofs.Members.{member_at, stepped, stopped, ended}
+use Rattle.evaluator.proofs.Members.{all_places, any_places}
 use Rattle.evaluator.proofs.operators.onward.Goals as goal
 
-pub marked-requires : goal.marked-requires
-marked-requires g c =
-    let k : Kripke = g.M.Model.meaning c.args.model.now in
-    let law = g.met.M.Model.lawful c.args.model.now in
-    let xs : List ℕ = successors k c.args.s in
-    let in_list : c.loop-i.i < length xs = omega (arith, c.degree-i-end.ensures, c.loop-i-test.true) in
-    (c.requires.0, omega (arith, c.successor.ensures, law.closed.inside c.args.s (or_first xs c.loop-i.i 0) c.requires.1 (member_at xs c.loop-i.i in_list), law.few))
+pub returns-in-Exists : goal.returns-in-Exists
+returns-in-Exists g c =
+    let xs : List ℕ = successors (g.M.Model.meaning c.args.model.now) c.args.s in
+    rw c.in-Exists.is
+    (any_places (marks c.args.row.now) xs _ _ c.degree.ensures
+    (any_from_yields_List (λ i. marks c.args.row.now (or_first xs i 0)) _ _ _ c.any.ensures.ran
+    (YieldsList-from_range 0 c.degree.result c.degree.result refl (search rules)) (λ i b q k. search (rules, tests))))
 
-pub loop-i-init : goal.loop-i-init
-loop-i-init g c = refl
-
-pub loop-i-preserved : goal.loop-i-preserved
-loop-i-preserved g c =
-    stepped c.args.each (marks c.args.row.now) (successors (g.M.Model.meaning c.args.model.now) c.args.s) c.loop-i.i _ c.loop-i.invariant
-    c.successor.result c.marked.result (omega (arith, c.degree-i-end.ensures, c.loop-i-test.true)) c.successor.ensures c.marked.ensures c.if-marked-each.false
-
-pub returns-then-marked-each : goal.returns-then-marked-each
-returns-then-marked-each g c =
-    stopped c.args.each (marks c.args.row.now) (successors (g.M.Model.meaning c.args.model.now) c.args.s) c.loop-i.i _ c.loop-i.invariant
-    c.successor.result c.marked.result (omega (arith, c.degree-i-end.ensures, c.loop-i-test.true)) c.successor.ensures c.marked.ensures c.if-marked-each.true
-
-pub returns : goal.returns
-returns g c =
-    ended c.args.each (marks c.args.row.now) (successors (g.M.Model.meaning c.args.model.now) c.args.s) c.loop-i.i _ c.loop-i.invariant
-    (omega (arith, c.degree-i-end.ensures, c.loop-i-test.false))
+pub returns-in-ForAll : goal.returns-in-ForAll
+returns-in-ForAll g c =
+    let xs : List ℕ = successors (g.M.Model.meaning c.args.model.now) c.args.s in
+    rw c.in-ForAll.is
+    (all_places (marks c.args.row.now) xs _ _ c.degree.ensures
+    (all_from_yields_List (λ i. marks c.args.row.now (or_first xs i 0)) _ _ _ c.all.ensures.ran
+    (YieldsList-from_range 0 c.degree.result c.degree.result refl (search rules)) (λ i b q k. search (rules, tests))))

@@ -1,4 +1,4 @@
-use Rattle.std.proofs.Common.{sym, ◌∙◌, arith}
+use Rattle.std.proofs.Common.{sym, ◌∙◌, arith, rules}
 use Rattle.std.proofs.lemmas.Bool.{both_ways}
 use Rattle.evaluator.proofs.Sweeps.{begun, passed, took}
 use Rattle.evaluator.proofs.operators.sweep.Goals as goal
@@ -9,9 +9,10 @@ loop-s-init g c = begun _ _ _ _ _ (omega arith)
 
 pub loop-s-preserved-then-onward : goal.loop-s-preserved-then-onward
 loop-s-preserved-then-onward g c =
+    let made =
     took _ _ (g.met.M.Model.lawful c.args.model.now) _ _ _ _ _ c.loop-s.changed c.loop-s.s _ c.loop-s.invariant (omega arith)
-    (sym c.marked.ensures ∙ c.if-not-marked.true) (sym c.marked-then-not-marked.ensures ∙ c.if-marked.true)
-    (sym c.onward.ensures ∙ c.if-onward.true) c.mark.ensures
+    (search rules) (search rules) (search rules) c.mark.ensures in
+    search rules
 
 pub loop-s-preserved : goal.loop-s-preserved
 loop-s-preserved g c =
