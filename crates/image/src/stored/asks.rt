@@ -35,8 +35,7 @@ impl<L: Label> KripkeModel for StoredModel<L> {
 
     fn successor(&self, s: usize, i: usize) -> usize {
         let next = &self.row(s).next;
-        let i = if i < next.len() { i } else { 0 };
-        next[i] as usize
+        *next.get(i).unwrap_or(&next[0]) as usize
     }
 }
 
@@ -46,7 +45,6 @@ impl<L: Label> StoredModel<L> {
         ensures meant { state (meaning_of L.Label.answers self.now) s ≡ row_state L.Label.answers result.now }
         ensures onward { 1 ≤ vec_len result.now.next }
     {
-        let s = if s < self.rows.len() { s } else { 0 };
-        &self.rows[s]
+        self.rows.get(s).unwrap_or(&self.rows[0])
     }
 }
