@@ -1,18 +1,21 @@
 -- Rows that are filled in one by one, and the model that they describe at the end.
-use Rattle.std.proofs.Common.{◌≡◌, ℕ, ◌+◌, ◌<◌, Bool, List, [], ◌∷◌, ◌++◌, length, get_or, sym, ◌∙◌, subst, arith, below_more}
+use Rattle.std.proofs.Common.{◌≡◌, ℕ, ◌+◌, ◌<◌, Bool, List, [], ◌∷◌, ◌++◌, length, get_or, sym, ap, ◌∙◌, subst, arith, below_more}
 use Rattle.std.proofs.lemmas.List.{length_push, get_or_append_left, get_or_push, get_or-map, length-map}
-use Rattle.kripke.specs.Structure.{Kripke, State, state}
-use Rattle.image.specs.Checks.{Firsts, Links, LongChain, Shown}
+use Rattle.kripke.specs.Structure.{Kripke, Member, State, state}
+use Rattle.image.specs.Checks.{Links, Shown}
 use Rattle.image.specs.Held.{Filled}
-use Rattle.image.specs.Image.{states, initial, first, Chain}
+use Rattle.image.specs.Image.{states, initial}
 use Rattle.labels.specs.Kinds.{Coding}
 use Rattle.image.specs.Loading.{Describes}
-use Rattle.image.specs.Stored.{row_state, rows_mean, nexts, Onward, Narrow, Inside}
-use Rattle.image.specs.declared.stored.Row.{Row}
+use Rattle.image.specs.Stored.{row_state, rows_mean, Inside}
+use Rattle.image.specs.declared.stored.row.Row.{Row}
 use Rattle.image.specs.Rows.{next_is}
-use Rattle.image.proofs.Walks.{not_empty, at_most, targets}
+use Rattle.image.proofs.Walks.{targets}
 
 module _ {L : Type 0} (answers : L → List Bool) (c : Coding) (img : List ℕ) where
+  pub filled_none : (n : ℕ) (rows : List (Row L)) → n ≡ 0 → rows ≡ [] → Filled answers c img n rows
+  filled_none n rows e f = record { count = omega (arith, e, ap length f); each = λ s d l. absurd (omega arith) }
+
   pub filled_more : (n : ℕ) (rows then : List (Row L)) (r : Row L)
       → Filled answers c img n rows → Shown c img n (row_state answers r) → then ≡ rows ++ r ∷ [] → Filled answers c img (n + 1) then
   filled_more n rows then r f h e =
@@ -48,16 +51,8 @@ module _ {L : Type 0} (answers : L → List Bool) {c : Coding} {img : List ℕ} 
         linked = λ s l. (shown s l).1;
       }
 
-  chained : (s : ℕ) → s < length rows → Chain img (first img s) (get_or (nexts rows) s [])
-  chained s l =
-      let n = f.count in
-      subst (λ (ts : List ℕ). Chain img (first img s) ts) (next_is answers rows start s l) (shown s (omega arith)).1
-
-  pub rows_onward : Firsts img → Onward rows
-  rows_onward firsts s l = let n = f.count in not_empty (chained s l) (firsts s (omega arith)).0
-
-  pub rows_narrow : ((s : ℕ) → s < states img → LongChain img s → ⊥) → Narrow rows
-  rows_narrow short s l = let n = f.count in at_most 16 (short s (omega arith)) (chained s l)
-
   pub rows_inside : Links img → Inside rows
-  rows_inside linked s t l m = let n = f.count in let k = targets linked (chained s l) t m in omega arith
+  rows_inside links s t l m =
+      let n = f.count in
+      let k = targets links (shown s (omega arith)).1 t (subst (λ (ts : List ℕ). Member t ts) (sym (next_is answers rows start s l)) m) in
+      omega arith

@@ -4,7 +4,7 @@ use Rattle.kripke.specs.Structure.{Kripke}
 use Rattle.labels.specs.Kinds.{Coding}
 use Rattle.image.specs.Checks.{Shown}
 use Rattle.image.specs.Stored.{row_state, rows_mean}
-use Rattle.image.specs.declared.stored.Row.{Row}
+use Rattle.image.specs.declared.stored.row.Row.{Row}
 use Rattle.image.specs.declared.stored.StoredModel.{StoredModel}
 
 abbrev pub meaning_of : {L : Type 0} → (L → List Bool) → StoredModel L → Kripke

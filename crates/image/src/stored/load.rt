@@ -8,7 +8,8 @@ ghost use Rattle.image.specs.Image.{states};
 ghost use Rattle.image.specs.Loading.{Breach, Describes, Fresh, Gives, slot_layer};
 ghost use Rattle.image.specs.Stored.{row_state};
 
-use super::{Row, StoredModel};
+use super::StoredModel;
+use super::row::Row;
 use crate::chain::MOST_SUCCESSORS;
 use crate::check::{Sound, check};
 use crate::slot::Slot;
@@ -30,11 +31,9 @@ fn row<L: Coded>(heap: Global, image: &Sound<L>, s: usize) -> Result<Row<L>, All
 fn rows<L: Coded>(heap: Global, image: &Sound<L>) -> Result<Vec<Row<L>>, AllocError>
     ensures { IfOk result (λ v. Filled L.Label.answers L.Coded.coding image.now.linked.records.image.now (states image.now.linked.records.image.now) v.items) }
 {
-    let mut rows = Vec::new(heap);
-    for s in 0..image.linked.records.states {
-        rows.push(row(heap, image, s)?)?;
-    }
-    Ok(rows)
+    (0..image.linked.records.states)
+        .map(|s| row(heap, image, s))
+        .try_collect(heap)
 }
 
 impl<L: Coded> StoredModel<L> {
