@@ -122,79 +122,31 @@ mod tests {
     #[test]
     fn header_fields(rt: HostRuntime) -> Result<(), Fail> {
         let heap = rt.alloc();
-        refused(
-            &rt,
-            heap,
-            patched(chained(heap, 1, 1)?, 0, 2),
-            Cause::HeaderField,
-            0,
-        )?;
-        refused(
-            &rt,
-            heap,
-            patched(chained(heap, 1, 1)?, 1, 1),
-            Cause::HeaderField,
-            1,
-        )?;
-        refused(&rt, heap, chained(heap, 0, 1)?, Cause::HeaderField, 2)?;
-        refused(&rt, heap, chained(heap, 257, 1)?, Cause::HeaderField, 2)?;
-        refused(&rt, heap, chained(heap, 1, 0)?, Cause::HeaderField, 4)?;
-        refused(&rt, heap, chained(heap, 1, 4097)?, Cause::HeaderField, 4)?;
-        refused(
-            &rt,
-            heap,
-            patched(chained(heap, 1, 1)?, 6, 1),
-            Cause::HeaderField,
-            6,
-        )?;
+        for (at, byte, place) in [(0, 2, 0), (1, 1, 1), (6, 1, 6)] {
+            let image = patched(chained(heap, 1, 1)?, at, byte);
+            refused(&rt, heap, image, Cause::HeaderField, place)?;
+        }
+        for (states, links, place) in [(0, 1, 2), (257, 1, 2), (1, 0, 4), (1, 4097, 4)] {
+            let image = chained(heap, states, links)?;
+            refused(&rt, heap, image, Cause::HeaderField, place)?;
+        }
         taken(&rt, heap, chained(heap, 256, 1)?, 256, 1)
     }
 
     #[test]
     fn records(rt: HostRuntime) -> Result<(), Fail> {
         let heap = rt.alloc();
-        refused(
-            &rt,
-            heap,
-            patched(chained(heap, 2, 3)?, 20, 0),
-            Cause::StateRecord,
-            16,
-        )?;
-        refused(
-            &rt,
-            heap,
-            patched(chained(heap, 2, 3)?, 20, 4),
-            Cause::StateRecord,
-            16,
-        )?;
-        refused(
-            &rt,
-            heap,
-            patched(chained(heap, 2, 3)?, 14, 1),
-            Cause::StateRecord,
-            8,
-        )?;
-        refused(
-            &rt,
-            heap,
-            patched(chained(heap, 2, 3)?, 23, 1),
-            Cause::StateRecord,
-            16,
-        )?;
-        refused(
-            &rt,
-            heap,
-            patched(chained(heap, 2, 3)?, 28, 2),
-            Cause::LinkRecord,
-            28,
-        )?;
-        refused(
-            &rt,
-            heap,
-            patched(chained(heap, 2, 3)?, 34, 4),
-            Cause::LinkRecord,
-            32,
-        )?;
+        for (at, byte, cause, place) in [
+            (20, 0, Cause::StateRecord, 16),
+            (20, 4, Cause::StateRecord, 16),
+            (14, 1, Cause::StateRecord, 8),
+            (23, 1, Cause::StateRecord, 16),
+            (28, 2, Cause::LinkRecord, 28),
+            (34, 4, Cause::LinkRecord, 32),
+        ] {
+            let image = patched(chained(heap, 2, 3)?, at, byte);
+            refused(&rt, heap, image, cause, place)?;
+        }
         taken(&rt, heap, patched(chained(heap, 2, 3)?, 32, 1), 2, 3)
     }
 
@@ -202,21 +154,12 @@ mod tests {
     fn chains(rt: HostRuntime) -> Result<(), Fail> {
         let heap = rt.alloc();
         taken(&rt, heap, chained(heap, 1, 16)?, 1, 16)?;
-        refused(&rt, heap, chained(heap, 1, 17)?, Cause::LongChain, 8)?;
-        refused(
-            &rt,
-            heap,
-            patched(chained(heap, 1, 1)?, 18, 1),
-            Cause::LongChain,
-            8,
-        )?;
-        refused(
-            &rt,
-            heap,
-            patched(chained(heap, 3, 17)?, 12, 2),
-            Cause::LongChain,
-            16,
-        )?;
+        let long = chained(heap, 1, 17)?;
+        refused(&rt, heap, long, Cause::LongChain, 8)?;
+        let circle = patched(chained(heap, 1, 1)?, 18, 1);
+        refused(&rt, heap, circle, Cause::LongChain, 8)?;
+        let second = patched(chained(heap, 3, 17)?, 12, 2);
+        refused(&rt, heap, second, Cause::LongChain, 16)?;
         taken(&rt, heap, patched(chained(heap, 1, 17)?, 12, 2), 1, 16)
     }
 
@@ -224,41 +167,19 @@ mod tests {
     #[test]
     fn first_fault(rt: HostRuntime) -> Result<(), Fail> {
         let heap = rt.alloc();
-        refused(
-            &rt,
-            heap,
-            patched(patched(chained(heap, 2, 3)?, 28, 2), 23, 1),
-            Cause::StateRecord,
-            16,
-        )?;
-        refused(
-            &rt,
-            heap,
-            patched(patched(chained(heap, 2, 3)?, 15, 1), 23, 1),
-            Cause::StateRecord,
-            8,
-        )?;
-        refused(
-            &rt,
-            heap,
-            patched(patched(chained(heap, 2, 3)?, 36, 9), 28, 2),
-            Cause::LinkRecord,
-            28,
-        )?;
-        refused(
-            &rt,
-            heap,
-            patched(patched(chained(heap, 1, 1)?, 6, 1), 1, 1),
-            Cause::HeaderField,
-            1,
-        )?;
-        refused(
-            &rt,
-            heap,
-            patched(chained(heap, 1, 17)?, 16, 1),
-            Cause::LinkRecord,
-            16,
-        )
+        for (one, other, cause, place) in [
+            ((28, 2), (23, 1), Cause::StateRecord, 16),
+            ((15, 1), (23, 1), Cause::StateRecord, 8),
+            ((36, 9), (28, 2), Cause::LinkRecord, 28),
+        ] {
+            let image = patched(chained(heap, 2, 3)?, one.0, one.1);
+            let image = patched(image, other.0, other.1);
+            refused(&rt, heap, image, cause, place)?;
+        }
+        let fields = patched(patched(chained(heap, 1, 1)?, 6, 1), 1, 1);
+        refused(&rt, heap, fields, Cause::HeaderField, 1)?;
+        let target = patched(chained(heap, 1, 17)?, 16, 1);
+        refused(&rt, heap, target, Cause::LinkRecord, 16)
     }
 
     #[test]
