@@ -41,13 +41,11 @@ impl<L: Coded> StoredModel<L> {
     pub fn new(heap: Global) -> Result<StoredModel<L>, AllocError>
         ensures { IfOk result (λ m. Fresh L.Coded.coding (meaning_of L.Label.answers m)) }
     {
-        let mut next = Vec::new(heap);
-        next.push(0)?;
-        let mut rows = Vec::new(heap);
-        rows.push(Row {
+        let row = Row {
             label: L::fresh(),
-            next,
-        })?;
+            next: vec![in heap; 0]?,
+        };
+        let rows = vec![in heap; row]?;
         Ok(StoredModel { rows, initial: 0 })
     }
 
