@@ -1,84 +1,58 @@
 -- Rows that are filled in one by one, and the model that they describe at the end.
-use Rattle.std.proofs.Common.{◌≡◌, ℕ, ◌+◌, ◌<◌, ◌≤◌, Bool, List, [], ◌∷◌, ◌++◌, map, length, get_or, sym, refl, subst, arith, below_more}
-use Rattle.std.proofs.lemmas.List.{length_push, get_or_append_left, get_or_push, get_or_default, map_push, length-map}
-use Rattle.kripke.specs.Structure.{Kripke, State, blank, state}
-use Rattle.image.specs.Checks.{Shown, Filled, Sound}
-use Rattle.image.specs.Image.{states, first, Chain}
+use Rattle.std.proofs.Common.{◌≡◌, ℕ, ◌+◌, ◌<◌, Bool, List, [], ◌∷◌, ◌++◌, length, get_or, sym, ap, ◌∙◌, subst, arith, below_more}
+use Rattle.std.proofs.lemmas.List.{length_push, get_or_append_left, get_or_push, get_or-map, length-map}
+use Rattle.kripke.specs.Structure.{Kripke, Member, State, state}
+use Rattle.image.specs.Checks.{Links, Shown}
+use Rattle.image.specs.Held.{Filled}
+use Rattle.image.specs.Image.{states, initial}
 use Rattle.labels.specs.Kinds.{Coding}
 use Rattle.image.specs.Loading.{Describes}
-use Rattle.image.specs.Stored.{row_state, rows_mean, nexts, Onward, Narrow, Inside}
-use Rattle.image.specs.declared.check.Header.{Header}
-use Rattle.image.specs.declared.stored.Row.{Row}
+use Rattle.image.specs.Stored.{row_state, rows_mean, Inside}
+use Rattle.image.specs.declared.stored.row.Row.{Row}
 use Rattle.image.specs.Rows.{next_is}
-use Rattle.image.proofs.Walks.{not_empty, at_most, targets}
+use Rattle.image.proofs.Walks.{targets}
 
-pub filled_none : (c : Coding) (img : List ℕ) → Filled c img 0 []
-filled_none c img = record { count = refl; each = λ s h. absurd (omega arith) }
+module _ {L : Type 0} (answers : L → List Bool) (c : Coding) (img : List ℕ) where
+  pub filled_none : (n : ℕ) (rows : List (Row L)) → n ≡ 0 → rows ≡ [] → Filled answers c img n rows
+  filled_none n rows e f = record { count = omega (arith, e, ap length f); each = λ s d l. absurd (omega arith) }
 
-filled_push : (c : Coding) (img : List ℕ) (n : ℕ) (all : List State) (x : State) → Filled c img n all → Shown c img n x → Filled c img (n + 1) (all ++ x ∷ [])
-filled_push c img n all x f h =
-    let e = f.count in
-    record {
-      count = omega (arith, length_push all x);
-      each =
-          below_more (λ s. Shown c img s (get_or (all ++ x ∷ []) s blank)) n
-          (λ s l. subst (λ (y : State). Shown c img s y) (sym (get_or_append_left all (x ∷ []) blank s (omega arith))) (f.each s l))
-          (subst (λ (y : State). Shown c img n y) (sym (get_or_push all x blank n e)) h);
-    }
-
--- one row more
-pub filled_more : {L : Type 0} (answers : L → List Bool) (c : Coding) (img : List ℕ) (n : ℕ) (rows then : List (Row L)) (r : Row L)
-    → Filled c img n (map (row_state answers) rows) → Shown c img n (row_state answers r) → then ≡ rows ++ r ∷ []
-    → Filled c img (n + 1) (map (row_state answers) then)
-filled_more {L} answers c img n rows then r f h e =
-    subst (λ (xs : List (Row L)). Filled c img (n + 1) (map (row_state answers) xs)) (sym e)
-    (subst (λ (xs : List State). Filled c img (n + 1) xs) (sym (map_push (row_state answers) rows r)) (filled_push c img n _ (row_state answers r) f h))
-
--- all rows, and the header's initial state
-module _ {L : Type 0} (answers : L → List Bool) {c : Coding} {img : List ℕ} {h : Header} (sound : Sound c img h)
-    (rows : List (Row L)) (f : Filled c img (states img) (map (row_state answers) rows)) where
-  abbrev mean : Kripke
-  mean = rows_mean answers rows h.initial
-
-  counted : length rows ≡ states img
-  counted = let e = f.count in omega (arith, length-map rows (row_state answers))
-
-  shown : (s : ℕ) → s < states img → Shown c img s (state mean s)
-  shown s l =
-      let e = f.count in
-      subst (λ (y : State). Shown c img s y) (get_or_default (map (row_state answers) rows) s blank _ (omega arith)) (f.each s l)
-
-  pub describes : Describes c img mean
-  describes =
+  pub filled_more : (n : ℕ) (rows then : List (Row L)) (r : Row L)
+      → Filled answers c img n rows → Shown c img n (row_state answers r) → then ≡ rows ++ r ∷ [] → Filled answers c img (n + 1) then
+  filled_more n rows then r f h e =
+      subst (λ (xs : List (Row L)). Filled answers c img (n + 1) xs) (sym e)
       record {
-        begins = sound.headed.read.initial_is;
-        counted = f.count;
-        labelled = λ s l. (shown s l).labelled;
-        linked = λ s l. (shown s l).linked;
+        count = let k = f.count in omega (arith, length_push rows r);
+        each = λ s d.
+            below_more (λ k. Shown c img k (row_state answers (get_or (rows ++ r ∷ []) k d))) n
+            (λ k l. let m = f.count in subst (λ (x : Row L). Shown c img k (row_state answers x)) (sym (get_or_append_left rows (r ∷ []) d k (omega arith))) (f.each k d l))
+            (subst (λ (x : Row L). Shown c img n (row_state answers x)) (sym (get_or_push rows r d n f.count)) h) s;
       }
 
-  chained : (s : ℕ) → s < length rows → Chain img (first img s) (get_or (nexts rows) s [])
-  chained s l =
-      let n = counted in
-      subst (λ (ts : List ℕ). Chain img (first img s) ts) (next_is answers rows h.initial s l) (shown s (omega arith)).linked
+-- what holds of the row at a place holds of the state that it means
+state_of : {L : Type 0} (answers : L → List Bool) (rows : List (Row L)) (start s : ℕ) (P : State → Type 0)
+    → s < length rows → ((d : Row L) → P (row_state answers (get_or rows s d))) → P (state (rows_mean answers rows start) s)
+state_of answers [] start s P l h = absurd (omega arith)
+state_of answers (r ∷ rs) start s P l h = subst P (sym (get_or-map (row_state answers) (r ∷ rs) s r _ l)) (h r)
 
-  pub some_rows : 1 ≤ length rows
-  some_rows = let n = counted in let r = sound.headed.read in omega arith
+-- all rows, and the header's initial state
+module _ {L : Type 0} (answers : L → List Bool) {c : Coding} {img : List ℕ} (rows : List (Row L)) (start : ℕ) (f : Filled answers c img (states img) rows) where
+  abbrev mean : Kripke
+  mean = rows_mean answers rows start
 
-  pub few_rows : length rows ≤ 256
-  few_rows = let n = counted in let r = sound.headed.read in omega arith
+  shown : (s : ℕ) → s < states img → Shown c img s (state mean s)
+  shown s l = let n = f.count in state_of answers rows start s (Shown c img s) (omega arith) (λ d. f.each s d l)
 
-  pub begins_within : h.initial < length rows
-  begins_within = let n = counted in let r = sound.headed.read in omega arith
+  pub describes : start ≡ initial img → Describes c img mean
+  describes e =
+      record {
+        begins = e;
+        counted = length-map rows (row_state answers) ∙ f.count;
+        labelled = λ s l. (shown s l).0;
+        linked = λ s l. (shown s l).1;
+      }
 
-  pub rows_onward : Onward rows
-  rows_onward s l = let n = counted in not_empty (chained s l) (sound.good s (omega arith) (omega arith)).linked.0
-
-  pub rows_narrow : Narrow rows
-  rows_narrow s l = let n = counted in at_most (sound.ends s (omega arith) (omega arith)) (chained s l)
-
-  pub rows_inside : Inside rows
-  rows_inside s t l m =
-      let n = counted in
-      let k = targets (λ i o. sound.linked i o.0 (omega arith)) (chained s l) t m in
+  pub rows_inside : Links img → Inside rows
+  rows_inside links s t l m =
+      let n = f.count in
+      let k = targets links (shown s (omega arith)).1 t (subst (λ (ts : List ℕ). Member t ts) (sym (next_is answers rows start s l)) m) in
       omega arith

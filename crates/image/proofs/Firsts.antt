@@ -6,7 +6,8 @@ use Rattle.kripke.specs.declared.refusal.Cause.{Cause}
 use Rattle.kripke.specs.declared.refusal.Cause.TheVariants.{ShortImage, HeaderField, ImageLength, StateRecord, LinkRecord, LongChain}
 use Rattle.kripke.specs.declared.refusal.Layer.{Layer}
 use Rattle.labels.specs.Kinds.{Coding}
-use Rattle.image.specs.Image.{byte_at, kind_of, states, links, initial, whole, state_at, link_at, first, Link, Walk}
+use Rattle.image.specs.Checks.{GoodHeader}
+use Rattle.image.specs.Image.{byte_at, kind_of, states, links, whole, state_at, link_at, first, Link, Walk}
 use Rattle.image.specs.Loading.{BadField, kind, gap, state_count, link_count, begins, GoodState, GoodLink, Breach, short, field, sized, entry, link, chain}
 
 module _ (c : Coding) (img : List ℕ) where
@@ -20,13 +21,12 @@ module _ (c : Coding) (img : List ℕ) where
   fields_before p six f0 f1 f2 f4 q l (begins h) = omega arith
 
   -- all fields are in order
-  pub no_field : kind_of img ≡ c.kind → byte_at img 1 ≡ 0 → (1 ≤ states img) × (states img ≤ 256) → (1 ≤ links img) × (links img ≤ 4096)
-      → initial img < states img → (p : ℕ) → BadField c img p → ⊥
-  no_field f0 f1 f2 f4 f6 p (kind h) = h f0
-  no_field f0 f1 f2 f4 f6 p (gap h) = h f1
-  no_field f0 f1 f2 f4 f6 p (state_count h) = h f2
-  no_field f0 f1 f2 f4 f6 p (link_count h) = h f4
-  no_field f0 f1 f2 f4 f6 p (begins h) = h f6
+  no_field : GoodHeader c img → (p : ℕ) → BadField c img p → ⊥
+  no_field g p (kind h) = h g.kind
+  no_field g p (gap h) = h g.gap
+  no_field g p (state_count h) = h (g.some, g.few)
+  no_field g p (link_count h) = h (g.some_links, g.few_links)
+  no_field g p (begins h) = h g.begins
 
   module _ (layer : Layer) where
     pub first_short : length img < 8 → First (Breach c img) layer record { cause = ShortImage; layer = layer; place = length img }
@@ -52,13 +52,13 @@ module _ (c : Coding) (img : List ℕ) where
         refute d q b (link s h) = let l = lower b in omega arith
         refute d q b (chain s h) = let l = lower b in omega arith
 
-    module _ (long : 8 ≤ length img) (fields : (p : ℕ) → BadField c img p → ⊥) where
-      pub first_sized : (p : ℕ) → p ≡ whole img → (length img ≡ whole img → ⊥) → First (Breach c img) layer record { cause = ImageLength; layer = layer; place = p }
-      first_sized p e bad = record { broken = subst (λ (x : ℕ). Breach c img ImageLength x) (sym e) (sized bad); least = refute; layered = refl }
+    module _ (header : GoodHeader c img) where
+      pub first_sized : (p : ℕ) → 8 ≤ length img → p ≡ whole img → (length img ≡ whole img → ⊥) → First (Breach c img) layer record { cause = ImageLength; layer = layer; place = p }
+      first_sized p long e bad = record { broken = subst (λ (x : ℕ). Breach c img ImageLength x) (sym e) (sized bad); least = refute; layered = refl }
         where
           refute : (d : Cause) (q : ℕ) → Before d q ImageLength p → Breach c img d q → ⊥
           refute d q b (short h) = omega arith
-          refute d q b (field h) = fields q h
+          refute d q b (field h) = no_field header q h
           refute d q b (sized h) = let l = same_lower b in omega arith
           refute d q b (entry s h) = let l = lower b in omega arith
           refute d q b (link s h) = let l = lower b in omega arith
@@ -71,7 +71,7 @@ module _ (c : Coding) (img : List ℕ) where
           where
             refute : (d : Cause) (q : ℕ) → Before d q StateRecord (state_at s) → Breach c img d q → ⊥
             refute d q b (short h) = omega arith
-            refute d q b (field h) = fields q h
+            refute d q b (field h) = no_field header q h
             refute d q b (sized h) = h full
             refute d q b (entry {s = t} i h) = let l = same_lower b in h (before t (omega arith))
             refute d q b (link i h) = let l = lower b in omega arith
@@ -84,7 +84,7 @@ module _ (c : Coding) (img : List ℕ) where
             where
               refute : (d : Cause) (q : ℕ) → Before d q LinkRecord (link_at img k) → Breach c img d q → ⊥
               refute d q b (short h) = omega arith
-              refute d q b (field h) = fields q h
+              refute d q b (field h) = no_field header q h
               refute d q b (sized h) = h full
               refute d q b (entry {s = t} i h) = h (good t i)
               refute d q b (link {l = j} i h) = let l = same_lower b in h (before j i.0 (omega arith))
@@ -97,7 +97,7 @@ module _ (c : Coding) (img : List ℕ) where
               where
                 refute : (d : Cause) (q : ℕ) → Before d q LongChain (state_at s) → Breach c img d q → ⊥
                 refute d q b (short h) = omega arith
-                refute d q b (field h) = fields q h
+                refute d q b (field h) = no_field header q h
                 refute d q b (sized h) = h full
                 refute d q b (entry {s = t} i h) = h (good t i)
                 refute d q b (link {l = j} i h) = h (linked j i)
@@ -105,7 +105,7 @@ module _ (c : Coding) (img : List ℕ) where
 
             pub no_breach : ((s : ℕ) → s < states img → Walk img (first img s) 17 → ⊥) → Clean (Breach c img)
             no_breach ends d q (short h) = omega arith
-            no_breach ends d q (field h) = fields q h
+            no_breach ends d q (field h) = no_field header q h
             no_breach ends d q (sized h) = h full
             no_breach ends d q (entry {s = t} i h) = h (good t i)
             no_breach ends d q (link {l = j} i h) = h (linked j i)

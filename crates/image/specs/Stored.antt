@@ -1,19 +1,13 @@
 -- The rows of a stored model, and what they must keep to.
-use Rattle.std.specs.Prelude.{ℕ, ◌<◌, ◌≤◌, Bool, List, [], map, length, vec_items, slice_index_or}
+use Rattle.std.specs.Prelude.{ℕ, ◌<◌, Bool, List, [], map, length, vec_items, slice_index_or}
 use Rattle.kripke.specs.Structure.{Kripke, State, Member}
-use Rattle.image.specs.declared.stored.Row.{Row}
+use Rattle.image.specs.declared.stored.row.Row.{Row}
 
 -- The successors of the rows.
 abbrev pub nexts : {L : Type 0} → List (Row L) → List (List ℕ)
 nexts rows = map (λ row. vec_items row.next) rows
 
--- Every row has 1 to 16 successors, and all are rows.
-abbrev pub Onward : {L : Type 0} → List (Row L) → Type 0
-Onward rows = (s : ℕ) → s < length rows → 1 ≤ length (slice_index_or (nexts rows) s [])
-
-abbrev pub Narrow : {L : Type 0} → List (Row L) → Type 0
-Narrow rows = (s : ℕ) → s < length rows → length (slice_index_or (nexts rows) s []) ≤ 16
-
+-- All successors are rows.
 abbrev pub Inside : {L : Type 0} → List (Row L) → Type 0
 Inside rows = (s t : ℕ) → s < length rows → Member t (slice_index_or (nexts rows) s []) → t < length rows
 

@@ -2,7 +2,9 @@
 
 #![tactic(auto)]
 
+mod chain;
 mod check;
+mod records;
 pub mod slot;
 pub mod stored;
 pub mod theorems;

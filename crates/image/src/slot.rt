@@ -10,12 +10,12 @@ pub enum Slot {
     Second,
 }
 
-impl Slot {
-    // The layer that refuses the image.
-    pub fn layer(self) -> Layer
-        ensures { result ≡ slot_layer self }
-    {
-        match self {
+// The layer that refuses the image.
+impl From<Slot> for Layer {
+    ghost from_gives = { λ slot layer. layer ≡ slot_layer slot };
+
+    fn from(slot: Slot) -> Layer {
+        match slot {
             Slot::First => Layer::FirstImage,
             Slot::Second => Layer::SecondImage,
         }

@@ -1,12 +1,7 @@
 ghost use Rattle.std.specs.Prelude.{ℕ, ◌<◌, ◌≤◌, length};
-ghost use Rattle.image.specs.Stored.{Inside, Narrow, Onward};
+ghost use Rattle.image.specs.Stored.{Inside};
 
-// One state: its label and its successors.
-#[derive(Drop)]
-struct Row<L> {
-    label: L,
-    next: Vec<u16>,
-}
+use self::row::Row;
 
 // A model that is held in memory, as an image described it.
 #[derive(Drop)]
@@ -16,10 +11,9 @@ pub struct StoredModel<L> {
     ghost some: { 1 ≤ length rows.items },
     ghost few: { length rows.items ≤ 256 },
     ghost begins: { initial < length rows.items },
-    ghost onward: { Onward rows.items },
-    ghost narrow: { Narrow rows.items },
     ghost inside: { Inside rows.items },
 }
 
 mod asks;
 mod load;
+mod row;

@@ -8,7 +8,7 @@ mod tests {
     use image::stored::StoredModel;
     use kripke::label::Label;
     use kripke::model::Model;
-    use kripke::refusal::Error;
+    use kripke::refusal::{Cause, Error, Layer};
     use labels::reading::Reading;
     use labels::signal::SignalWord;
     use std::alloc::{AllocError, Global};
@@ -16,10 +16,7 @@ mod tests {
     use std::test::Fail;
 
     fn push_number(image: &mut Vec<u8>, n: u16) -> Result<(), AllocError> {
-        for byte in n.to_le_bytes() {
-            image.push(byte)?;
-        }
-        Ok(())
+        image.extend(n.to_le_bytes())
     }
 
     // An image of signal words: n states that all have the chain from link 1, and m links, each to state 0 and to the next link, but for the last.
@@ -45,8 +42,8 @@ mod tests {
 
     // The image with one byte changed, where it has that byte.
     fn patched(mut image: Vec<u8>, at: usize, byte: u8) -> Vec<u8> {
-        if at < image.len() {
-            image[at] = byte;
+        if let Some(place) = image.get_mut(at) {
+            *place = byte;
         }
         image
     }
@@ -80,18 +77,13 @@ mod tests {
         rt: &impl Abort,
         heap: Global,
         image: Vec<u8>,
-        number: u8,
+        cause: Cause,
         place: usize,
     ) -> Result<(), Fail> {
         let mut model = held(heap)?;
-        match model.load(heap, image.as_slice(), Slot::Second) {
-            Err(Error::Refused(refusal)) => {
-                assert_eq!(rt; refusal.number(), number);
-                assert_eq!(rt; refusal.place, place);
-                assert_eq!(rt; refusal.layer_number(), 2);
-            }
-            _ => return Err(Fail::new("the image is not refused")),
-        }
+        let refusal = Layer::SecondImage.refusal(cause, place);
+        let loaded = model.load(heap, image.as_slice(), Slot::Second);
+        assert_eq!(rt; loaded, Err(Error::Refused(refusal)));
         still_held(rt, &model);
         Ok(())
     }
@@ -105,54 +97,56 @@ mod tests {
         degree: usize,
     ) -> Result<(), Fail> {
         let mut model = held(heap)?;
-        match model.load(heap, image.as_slice(), Slot::First) {
-            Ok(()) => {
-                assert_eq!(rt; model.states(), states);
-                assert_eq!(rt; model.degree(0), degree);
-                Ok(())
-            }
-            Err(_) => Err(Fail::new("the image is refused")),
-        }
+        assert_eq!(rt; model.load(heap, image.as_slice(), Slot::First), Ok(()));
+        assert_eq!(rt; model.states(), states);
+        assert_eq!(rt; model.degree(0), degree);
+        Ok(())
     }
 
     #[test]
     fn lengths(rt: HostRuntime) -> Result<(), Fail> {
         let heap = rt.alloc();
-        refused(&rt, heap, Vec::new(heap), 1, 0)?;
+        refused(&rt, heap, Vec::new(heap), Cause::ShortImage, 0)?;
         let mut short = chained(heap, 1, 1)?;
         short.truncate(7);
-        refused(&rt, heap, short, 1, 7)?;
+        refused(&rt, heap, short, Cause::ShortImage, 7)?;
         let mut header = chained(heap, 1, 1)?;
         header.truncate(8);
-        refused(&rt, heap, header, 3, 20)?;
+        refused(&rt, heap, header, Cause::ImageLength, 20)?;
         let mut long = chained(heap, 1, 1)?;
         long.push(0)?;
-        refused(&rt, heap, long, 3, 20)?;
+        refused(&rt, heap, long, Cause::ImageLength, 20)?;
         taken(&rt, heap, chained(heap, 1, 1)?, 1, 1)
     }
 
     #[test]
     fn header_fields(rt: HostRuntime) -> Result<(), Fail> {
         let heap = rt.alloc();
-        refused(&rt, heap, patched(chained(heap, 1, 1)?, 0, 2), 2, 0)?;
-        refused(&rt, heap, patched(chained(heap, 1, 1)?, 1, 1), 2, 1)?;
-        refused(&rt, heap, chained(heap, 0, 1)?, 2, 2)?;
-        refused(&rt, heap, chained(heap, 257, 1)?, 2, 2)?;
-        refused(&rt, heap, chained(heap, 1, 0)?, 2, 4)?;
-        refused(&rt, heap, chained(heap, 1, 4097)?, 2, 4)?;
-        refused(&rt, heap, patched(chained(heap, 1, 1)?, 6, 1), 2, 6)?;
+        for (at, byte, place) in [(0, 2, 0), (1, 1, 1), (6, 1, 6)] {
+            let image = patched(chained(heap, 1, 1)?, at, byte);
+            refused(&rt, heap, image, Cause::HeaderField, place)?;
+        }
+        for (states, links, place) in [(0, 1, 2), (257, 1, 2), (1, 0, 4), (1, 4097, 4)] {
+            let image = chained(heap, states, links)?;
+            refused(&rt, heap, image, Cause::HeaderField, place)?;
+        }
         taken(&rt, heap, chained(heap, 256, 1)?, 256, 1)
     }
 
     #[test]
     fn records(rt: HostRuntime) -> Result<(), Fail> {
         let heap = rt.alloc();
-        refused(&rt, heap, patched(chained(heap, 2, 3)?, 20, 0), 4, 16)?;
-        refused(&rt, heap, patched(chained(heap, 2, 3)?, 20, 4), 4, 16)?;
-        refused(&rt, heap, patched(chained(heap, 2, 3)?, 14, 1), 4, 8)?;
-        refused(&rt, heap, patched(chained(heap, 2, 3)?, 23, 1), 4, 16)?;
-        refused(&rt, heap, patched(chained(heap, 2, 3)?, 28, 2), 5, 28)?;
-        refused(&rt, heap, patched(chained(heap, 2, 3)?, 34, 4), 5, 32)?;
+        for (at, byte, cause, place) in [
+            (20, 0, Cause::StateRecord, 16),
+            (20, 4, Cause::StateRecord, 16),
+            (14, 1, Cause::StateRecord, 8),
+            (23, 1, Cause::StateRecord, 16),
+            (28, 2, Cause::LinkRecord, 28),
+            (34, 4, Cause::LinkRecord, 32),
+        ] {
+            let image = patched(chained(heap, 2, 3)?, at, byte);
+            refused(&rt, heap, image, cause, place)?;
+        }
         taken(&rt, heap, patched(chained(heap, 2, 3)?, 32, 1), 2, 3)
     }
 
@@ -160,9 +154,12 @@ mod tests {
     fn chains(rt: HostRuntime) -> Result<(), Fail> {
         let heap = rt.alloc();
         taken(&rt, heap, chained(heap, 1, 16)?, 1, 16)?;
-        refused(&rt, heap, chained(heap, 1, 17)?, 6, 8)?;
-        refused(&rt, heap, patched(chained(heap, 1, 1)?, 18, 1), 6, 8)?;
-        refused(&rt, heap, patched(chained(heap, 3, 17)?, 12, 2), 6, 16)?;
+        let long = chained(heap, 1, 17)?;
+        refused(&rt, heap, long, Cause::LongChain, 8)?;
+        let circle = patched(chained(heap, 1, 1)?, 18, 1);
+        refused(&rt, heap, circle, Cause::LongChain, 8)?;
+        let second = patched(chained(heap, 3, 17)?, 12, 2);
+        refused(&rt, heap, second, Cause::LongChain, 16)?;
         taken(&rt, heap, patched(chained(heap, 1, 17)?, 12, 2), 1, 16)
     }
 
@@ -170,35 +167,19 @@ mod tests {
     #[test]
     fn first_fault(rt: HostRuntime) -> Result<(), Fail> {
         let heap = rt.alloc();
-        refused(
-            &rt,
-            heap,
-            patched(patched(chained(heap, 2, 3)?, 28, 2), 23, 1),
-            4,
-            16,
-        )?;
-        refused(
-            &rt,
-            heap,
-            patched(patched(chained(heap, 2, 3)?, 15, 1), 23, 1),
-            4,
-            8,
-        )?;
-        refused(
-            &rt,
-            heap,
-            patched(patched(chained(heap, 2, 3)?, 36, 9), 28, 2),
-            5,
-            28,
-        )?;
-        refused(
-            &rt,
-            heap,
-            patched(patched(chained(heap, 1, 1)?, 6, 1), 1, 1),
-            2,
-            1,
-        )?;
-        refused(&rt, heap, patched(chained(heap, 1, 17)?, 16, 1), 5, 16)
+        for (one, other, cause, place) in [
+            ((28, 2), (23, 1), Cause::StateRecord, 16),
+            ((15, 1), (23, 1), Cause::StateRecord, 8),
+            ((36, 9), (28, 2), Cause::LinkRecord, 28),
+        ] {
+            let image = patched(chained(heap, 2, 3)?, one.0, one.1);
+            let image = patched(image, other.0, other.1);
+            refused(&rt, heap, image, cause, place)?;
+        }
+        let fields = patched(patched(chained(heap, 1, 1)?, 6, 1), 1, 1);
+        refused(&rt, heap, fields, Cause::HeaderField, 1)?;
+        let target = patched(chained(heap, 1, 17)?, 16, 1);
+        refused(&rt, heap, target, Cause::LinkRecord, 16)
     }
 
     #[test]
@@ -214,7 +195,7 @@ mod tests {
         assert!(rt; model.load(heap, rising.as_slice(), Slot::First).is_ok());
         assert!(rt; !model.label(0).answer(0));
         match model.load(heap, patched(rising, 10, 60).as_slice(), Slot::First) {
-            Err(Error::Refused(refusal)) => assert_eq!(rt; refusal.number(), 4),
+            Err(Error::Refused(refusal)) => assert_eq!(rt; refusal.cause, Cause::StateRecord),
             _ => return Err(Fail::new("the limits do not rise")),
         }
         assert!(rt; !model.label(0).answer(0));

@@ -1,10 +1,11 @@
-ghost use Rattle.std.specs.Prelude.{◌≡◌, ◌≤◌, vec_len};
+ghost use Rattle.std.specs.Prelude.{◌≡◌};
 ghost use Rattle.kripke.specs.Structure.{state};
 ghost use Rattle.image.specs.Held.{meaning_of};
 ghost use Rattle.image.specs.Stored.{row_state};
 ghost use Rattle.image.specs.Rows;
 
-use super::{Row, StoredModel};
+use super::StoredModel;
+use super::row::Row;
 use kripke::label::Label;
 use kripke::model::Model as KripkeModel;
 
@@ -15,8 +16,9 @@ impl<L: Label> KripkeModel for StoredModel<L> {
 
     ghost lawful = { λ m.
         Rows.lawful L.Label.answers L.Label.count L.Label.answered m.rows.items m.initial
-        m.some m.few m.begins m.onward m.narrow m.inside };
+        m.some m.few m.begins m.inside };
 
+    #[tactic(auto, using(crate::specs::Rows::size_is))]
     fn states(&self) -> usize {
         self.rows.len()
     }
@@ -35,18 +37,15 @@ impl<L: Label> KripkeModel for StoredModel<L> {
 
     fn successor(&self, s: usize, i: usize) -> usize {
         let next = &self.row(s).next;
-        let i = if i < next.len() { i } else { 0 };
-        next[i] as usize
+        *next.get(i).unwrap_or(&next[0]) as usize
     }
 }
 
 impl<L: Label> StoredModel<L> {
     // The row of state s, and past the last that of state 0.
     fn row(&self, s: usize) -> &Row<L>
-        ensures meant { state (meaning_of L.Label.answers self.now) s ≡ row_state L.Label.answers result.now }
-        ensures onward { 1 ≤ vec_len result.now.next }
+        ensures { state (meaning_of L.Label.answers self.now) s ≡ row_state L.Label.answers result.now }
     {
-        let s = if s < self.rows.len() { s } else { 0 };
-        &self.rows[s]
+        self.rows.get(s).unwrap_or(&self.rows[0])
     }
 }

@@ -1,66 +1,39 @@
-ghost use Rattle.std.specs.Prelude.{◌≡◌, ℕ, ◌<◌, ◌≤◌, map, IfOk};
+ghost use Rattle.std.specs.Prelude.{◌≡◌, ℕ, ◌<◌, ◌≤◌, IfOk};
 ghost use Rattle.kripke.specs.Refusals.{First, JudgedInMemory};
 ghost use Rattle.kripke.specs.Structure.{Kripke};
 ghost use Rattle.kripke.specs.declared.refusal.Refusal.{Refusal};
-ghost use Rattle.image.specs.Checks.{Ends, Filled, Links, Read, Shown, Sound};
-ghost use Rattle.image.specs.Held.{meaning_of};
-ghost use Rattle.image.specs.Image.{Chain, Link, states};
+ghost use Rattle.image.specs.Checks.{Shown};
+ghost use Rattle.image.specs.Held.{Filled, meaning_of};
+ghost use Rattle.image.specs.Image.{states};
 ghost use Rattle.image.specs.Loading.{Breach, Describes, Fresh, Gives, slot_layer};
 ghost use Rattle.image.specs.Stored.{row_state};
 
-use super::{Row, StoredModel};
-use crate::check;
-use crate::check::Header;
+use super::StoredModel;
+use super::row::Row;
+use crate::chain::MOST_SUCCESSORS;
+use crate::check::{Sound, check};
 use crate::slot::Slot;
-use kripke::refusal::Error;
+use kripke::refusal::{Error, Layer};
 use labels::coded::Coded;
 use std::alloc::{AllocError, Global};
 
-// The targets of the chain from a link.
-fn successors(
-    heap: Global,
-    image: &[u8],
-    header: Header,
-    first: usize,
-) -> Result<Vec<u16>, AllocError>
-    requires read { Read image.now header }
-    requires linked { Links image.now }
-    requires within { Link image.now first }
-    requires ends { Ends image.now first }
-    ensures { IfOk result (λ v. Chain image.now first v.items) }
+// The row of state s: its label and the targets of its chain.
+fn row<L: Coded>(heap: Global, image: &Sound<L>, s: usize) -> Result<Row<L>, AllocError>
+    requires { s < image.now.linked.records.states }
+    ensures { IfOk result (λ x. Shown L.Coded.coding image.now.linked.records.image.now s (row_state L.Label.answers x)) }
 {
-    let mut next = Vec::new(heap);
-    let mut link = first;
-    while link != 0 {
-        next.push(check::link_target(image, header, link))?;
-        link = check::link_after(image, header, link);
-    }
-    Ok(next)
-}
-
-// The row of state s.
-fn row<L: Coded>(heap: Global, image: &[u8], header: Header, s: usize) -> Result<Row<L>, AllocError>
-    requires sound { Sound L.Coded.coding image.now header }
-    requires within { s < header.states }
-    ensures { IfOk result (λ x. Shown L.Coded.coding image.now s (row_state L.Label.answers x)) }
-{
-    let next = successors(heap, image, header, check::first_link(image, s))?;
-    match check::label(image, s) {
-        Some(label) => Ok(Row { label, next }),
-        None => unreachable(),
-    }
+    let label = image.linked.records.label(s).unwrap();
+    let next = image.linked.chain(s).take(MOST_SUCCESSORS).collect(heap)?;
+    Ok(Row { label, next })
 }
 
 // The rows of all states.
-fn rows<L: Coded>(heap: Global, image: &[u8], header: Header) -> Result<Vec<Row<L>>, AllocError>
-    requires { Sound L.Coded.coding image.now header }
-    ensures { IfOk result (λ v. Filled L.Coded.coding image.now (states image.now) (map (row_state L.Label.answers) v.items)) }
+fn rows<L: Coded>(heap: Global, image: &Sound<L>) -> Result<Vec<Row<L>>, AllocError>
+    ensures { IfOk result (λ v. Filled L.Label.answers L.Coded.coding image.now.linked.records.image.now (states image.now.linked.records.image.now) v.items) }
 {
-    let mut rows = Vec::new(heap);
-    for s in 0..header.states {
-        rows.push(row(heap, image, header, s)?)?;
-    }
-    Ok(rows)
+    (0..image.linked.records.states)
+        .map(|s| row(heap, image, s))
+        .try_collect(heap)
 }
 
 impl<L: Coded> StoredModel<L> {
@@ -68,13 +41,11 @@ impl<L: Coded> StoredModel<L> {
     pub fn new(heap: Global) -> Result<StoredModel<L>, AllocError>
         ensures { IfOk result (λ m. Fresh L.Coded.coding (meaning_of L.Label.answers m)) }
     {
-        let mut next = Vec::new(heap);
-        next.push(0)?;
-        let mut rows = Vec::new(heap);
-        rows.push(Row {
+        let row = Row {
             label: L::fresh(),
-            next,
-        })?;
+            next: vec![in heap; 0]?,
+        };
+        let rows = vec![in heap; row]?;
         Ok(StoredModel { rows, initial: 0 })
     }
 
@@ -82,11 +53,11 @@ impl<L: Coded> StoredModel<L> {
     fn take(&mut self, heap: Global, image: &[u8], slot: Slot) -> Result<(), Error>
         ensures { JudgedInMemory (Breach L.Coded.coding image.now) (slot_layer slot) (λ _. Describes L.Coded.coding image.now (meaning_of L.Label.answers self.new)) (self.new ≡ self.old) result }
     {
-        let header = check::check::<L>(image, slot.layer())?;
-        let rows = rows(heap, image, header)?;
+        let image = check::<L>(image, Layer::from(slot))?;
+        let rows = rows(heap, &image)?;
         *self = StoredModel {
             rows,
-            initial: header.initial,
+            initial: image.linked.records.initial,
         };
         Ok(())
     }
