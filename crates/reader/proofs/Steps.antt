@@ -25,8 +25,8 @@ pub record Tells (s : Stream) (k : Cause) (e : Refusal) : Type 0 where
   pub layered : e.layer ≡ layer.Text
   pub caused : e.cause ≡ k
 
-pub tells : (s : Stream) (k : Cause) (e : Refusal) (n at : ℕ) → offset s + n ≡ at → (e.cause ≡ k) × (e.layer ≡ layer.Text) × (e.place ≡ at - n) → Tells s k e
-tells s k e n at h g = record { here = omega (arith, g.2); layered = g.1; caused = g.0 }
+pub tells : (s : Stream) (k : Cause) (e : Refusal) (n at : ℕ) → offset s + n ≡ at → e ≡ record { cause = k; layer = layer.Text; place = at - n } → Tells s k e
+tells s k e n at h g = let z = ap (λ (r : Refusal). r.place) g in record { here = omega arith; layered = ap (λ (r : Refusal). r.layer) g; caused = ap (λ (r : Refusal). r.cause) g }
 
 -- A sign.
 pub sign_taken : (s s' : Stream) (g : Sign) → first s ≡ token.Sign g → rest s ≡ s' → (c : ℕ) → Taken {R = Unit {0}} (Signed g) (λ _ _. Unit {0}) c s tt s'

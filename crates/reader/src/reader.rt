@@ -5,13 +5,11 @@ ghost use Rattle.reader.specs.Reading.{Grown, Laying, Moved, Next, Parsed, Stand
 ghost use Rattle.reader.specs.Tokens.{Decided};
 ghost use Rattle.reader.specs.declared.head.Opening.TheVariants.{Pair};
 
+use crate::LEVELS;
 use crate::head::{Head, Opening, asked, head_of, unary_code};
 use crate::token::{Quantifier, Sign, Token, is_sign, split_token};
 use kripke::node::Node;
 use kripke::refusal::{Cause, Layer, Refusal};
-
-// The most levels of a formula.
-const LEVELS: u8 = 64;
 
 // A text, how far it has been read, and how many nodes have been made.
 #[derive(Drop)]
@@ -19,17 +17,6 @@ pub struct Reader<'a> {
     text: &'a [u8],
     at: usize,
     used: usize,
-}
-
-// A refusal by the reader.
-pub(crate) fn refusal(cause: Cause, place: usize) -> Refusal
-    ensures { (result.cause ≡ cause) × (result.layer ≡ Text) × (result.place ≡ place) }
-{
-    Refusal {
-        cause,
-        layer: Layer::Text,
-        place,
-    }
 }
 
 // Whether no level is left.
@@ -75,7 +62,7 @@ impl<'a> Reader<'a> {
         if is_sign(token, sign) {
             Ok(())
         } else {
-            Err(refusal(Cause::Unexpected, self.at - part.len()))
+            Err(Layer::Text.refusal(Cause::Unexpected, self.at - part.len()))
         }
     }
 
@@ -103,7 +90,7 @@ impl<'a> Reader<'a> {
         } else if is_sign(token, Sign::Or) {
             Ok(4)
         } else {
-            Err(refusal(Cause::Unexpected, self.at - part.len()))
+            Err(Layer::Text.refusal(Cause::Unexpected, self.at - part.len()))
         }
     }
 
@@ -147,13 +134,13 @@ impl<'a> Reader<'a> {
         let (token, part) = self.token();
         let place = self.at - part.len();
         let Some(head) = head_of(token) else {
-            return Err(refusal(Cause::Unexpected, place));
+            return Err(Layer::Text.refusal(Cause::Unexpected, place));
         };
         if !asked(head, questions) {
-            return Err(refusal(Cause::QuestionNumber, place));
+            return Err(Layer::Text.refusal(Cause::QuestionNumber, place));
         }
         if spent(levels) {
-            return Err(refusal(Cause::TooDeep, place));
+            return Err(Layer::Text.refusal(Cause::TooDeep, place));
         }
         Ok(head)
     }
@@ -239,6 +226,6 @@ pub(crate) fn read_whole(
     let (token, part) = reader.token();
     match token {
         Token::End => Ok(reader.used),
-        _ => Err(refusal(Cause::Unexpected, reader.at - part.len())),
+        _ => Err(Layer::Text.refusal(Cause::Unexpected, reader.at - part.len())),
     }
 }
