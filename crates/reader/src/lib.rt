@@ -10,7 +10,9 @@ ghost use Rattle.std.specs.Prelude.{◌≡◌, length};
 use kripke::node::Node;
 use kripke::refusal::Refusal;
 
+mod cursor;
 mod head;
+mod nodes;
 mod passes;
 mod reader;
 mod token;
