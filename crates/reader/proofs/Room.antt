@@ -9,7 +9,7 @@ use Rattle.reader.specs.declared.token.Unary.{Unary}
 use Rattle.reader.specs.declared.head.Opening.{Opening}
 use Rattle.reader.specs.declared.head.Head.{Head}
 use Rattle.reader.specs.declared.head.Head.TheVariants as head
-use Rattle.reader.specs.declared.nodes.Nodes.{Nodes}
+use Rattle.kripke.specs.declared.node.Node.{Node}
 use Rattle.reader.specs.Tokens.{Stream, next, lex, kinds, After, tokens}
 use Rattle.reader.specs.Grammar.{Mark, mark, marks, toks}
 use Rattle.reader.specs.Phrases.{Phrase, Form, Opened, Middle, closing, joined, joined_by, applied, applied_by, opening, Taken, Begun}
@@ -84,5 +84,6 @@ head_left c l s s' h b = tokens_left s (opening h ∷ []) s' b.after
 pub phrase_left : {R : Type 0} (P : Phrase) (Is : P.A → R → Type 0) (c : ℕ) (s s' : Stream) (r : R) → Taken {R = R} P Is c s r s' → length (kinds s') ≤ length (kinds s)
 phrase_left P Is c s s' r t = omega (arith, tokens_left s (toks (P.mk t.value)) s' t.after)
 
-pub formula_left : (c l : ℕ) (m m' : Nodes) (s s' : Stream) (own : ℕ) → Taken {R = ℕ} (Form l) (λ f own. Laying m f own m') c s own s' → m'.count + length (kinds s') ≤ m.count + length (kinds s)
-formula_left c l m m' s s' own t = omega (arith, t.is.counted, nodes_left t.value l m.count s s' t.after)
+pub formula_left : (c l i : ℕ) (before : List Node) (i' : ℕ) (after : List Node) (s s' : Stream) (own : ℕ) → Taken {R = ℕ} (Form l) (λ f own. Laying i before f own i' after) c s own s'
+    → i' + length (kinds s') ≤ i + length (kinds s)
+formula_left c l i before i' after s s' own t = omega (arith, t.is.counted, nodes_left t.value l i s s' t.after)

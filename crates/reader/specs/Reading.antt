@@ -6,7 +6,6 @@ use Rattle.kripke.specs.declared.refusal.Refusal.{Refusal}
 use Rattle.reader.specs.declared.token.Token.{Token}
 use Rattle.reader.specs.declared.token.Token.TheVariants.{End}
 use Rattle.reader.specs.declared.cursor.Cursor.{Cursor}
-use Rattle.reader.specs.declared.nodes.Nodes.{Nodes}
 use Rattle.reader.specs.Tokens.{Stream, tokens, first, rest, offset}
 use Rattle.reader.specs.Grammar.{Sentence, Within}
 use Rattle.reader.specs.Table.{nodes, table, laid}
@@ -26,19 +25,17 @@ pub record Passed (s : Stream) (t : Token) (place : ℕ) (s' : Stream) : Type 0 
 abbrev pub Text : Phrase
 Text = Then (Form 1) (Exact End)
 
--- One more node has been made after those of m, with its number, and written if there is a place for it.
-pub record Pushed (m : Nodes) (n : Node) (number : ℕ) (m' : Nodes) : Type 0 where
-  pub own : number ≡ m.count
-  pub counted : m'.count ≡ m.count + 1
-  pub written : m'.places.now ≡ slice_set m.places.now m.count n
-  pub same_places : m'.places.ghost_name ≡ m.places.ghost_name
+-- One more node has been made, number i, and written if there is a place for it.
+pub record Pushed (i : ℕ) (before : List Node) (n : Node) (own i' : ℕ) (after : List Node) : Type 0 where
+  pub own-is : own ≡ i
+  pub counted : i' ≡ i + 1
+  pub written : after ≡ slice_set before i n
 
--- The formula's nodes have been made after those of m; its own is the last of them.
-pub record Laying (m : Nodes) (f : Formula) (own : ℕ) (m' : Nodes) : Type 0 where
-  pub last : own + 1 ≡ m'.count
-  pub counted : m'.count ≡ m.count + length (nodes m.count f)
-  pub written : m'.places.now ≡ laid m.places.now m.count (nodes m.count f)
-  pub same_places : m'.places.ghost_name ≡ m.places.ghost_name
+-- The formula's nodes have been made, numbered from i on; its own is the last of them, and then comes number i'.
+pub record Laying (i : ℕ) (before : List Node) (f : Formula) (own i' : ℕ) (after : List Node) : Type 0 where
+  pub last : own + 1 ≡ i'
+  pub counted : i' ≡ i + length (nodes i f)
+  pub written : after ≡ laid before i (nodes i f)
 
 -- What the reader of a whole text owes: its nodes are written as far as there are places for them.
 pub record Whole (text : List ℕ) (c : ℕ) (before after : List Node) (n : ℕ) : Type 0 where

@@ -12,7 +12,6 @@ use kripke::refusal::Refusal;
 
 mod cursor;
 mod head;
-mod nodes;
 mod passes;
 mod reader;
 mod token;

@@ -1,42 +1,56 @@
-ghost use Rattle.std.specs.Prelude.{◌≡◌, ◌+◌, ◌≤◌, length};
+ghost use Rattle.std.specs.Prelude.{◌≡◌, ◌+◌, ◌^◌, ◌<◌, ◌≤◌, length};
 ghost use Rattle.reader.specs.Phrases.{Form, Owes};
-ghost use Rattle.reader.specs.Reading.{Laying, Parsed, ahead};
+ghost use Rattle.reader.specs.Reading.{Laying, Parsed, Pushed, ahead};
 ghost use Rattle.reader.specs.Tokens.{kinds};
 
 use crate::LEVELS;
 use crate::cursor::Cursor;
 use crate::head::Head;
-use crate::nodes::Nodes;
 use crate::token::Token;
 use kripke::node::Node;
 use kripke::operator::Operator;
 use kripke::refusal::{Cause, Layer, Refusal};
 
-// A text that is read as a formula on so many questions, and the nodes that have been made of it.
+// A text that is read as a formula on so many questions, the places for its nodes, and how many have been made.
 #[derive(Drop)]
 pub struct Reader<'a> {
     cursor: Cursor<'a>,
     questions: usize,
-    nodes: Nodes<'a>,
+    places: &'a mut [Node],
+    count: usize,
 }
 
 impl<'a> Reader<'a> {
+    // One more node, written if there is a place for it; its number.
+    fn push(&mut self, node: Node) -> u16
+        requires { self.old.count < 2 ^ 16 }
+        ensures pushed { Pushed self.old.count self.old.places.now node result self.new.count self.new.places.now }
+        ensures same_cursor { self.new.cursor ≡ self.old.cursor }
+        ensures same_questions { self.new.questions ≡ self.old.questions }
+        ensures same_places { self.new.places.ghost_name ≡ self.old.places.ghost_name }
+    {
+        let number = self.count;
+        if number < self.places.len() {
+            self.places[number] = node;
+        }
+        self.count += 1;
+        number as u16
+    }
+
     // A formula at the level: its nodes are made in order, and the number of its own, the last, is given.
     fn formula(&mut self, level: u8) -> Result<u16, Refusal>
         requires shallow { level ≤ 65 }
-        requires room { self.old.nodes.count + length (kinds (ahead self.old.cursor)) ≤ 4097 }
-        ensures questions { self.new.questions ≡ self.old.questions }
-        ensures owes { Owes (Form level) (λ f own. Laying self.old.nodes f own self.new.nodes) self.old.questions (ahead self.old.cursor) (ahead self.new.cursor) result }
+        requires room { self.old.count + length (kinds (ahead self.old.cursor)) ≤ 4097 }
+        ensures same_questions { self.new.questions ≡ self.old.questions }
+        ensures same_places { self.new.places.ghost_name ≡ self.old.places.ghost_name }
+        ensures owes { Owes (Form level) (λ f own. Laying self.old.count self.old.places.now f own self.new.count self.new.places.now) self.old.questions (ahead self.old.cursor) (ahead self.new.cursor) result }
     {
         match self.cursor.head(self.questions, level)? {
-            Head::Truth => Ok(self.nodes.push(Node::new(Operator::Truth, 0, 0))),
-            Head::Question(j) => Ok(
-                self.nodes
-                    .push(Node::new(Operator::Question, u16::from(j), 0)),
-            ),
+            Head::Truth => Ok(self.push(Node::new(Operator::Truth, 0, 0))),
+            Head::Question(j) => Ok(self.push(Node::new(Operator::Question, u16::from(j), 0))),
             Head::Unary(unary) => {
                 let a = self.formula(level + 1)?;
-                Ok(self.nodes.push(Node::new(Operator::from(unary), a, 0)))
+                Ok(self.push(Node::new(Operator::from(unary), a, 0)))
             }
             Head::Binary(opening) => {
                 self.cursor.open(opening)?;
@@ -44,7 +58,7 @@ impl<'a> Reader<'a> {
                 let operator = self.cursor.middle(opening)?;
                 let b = self.formula(level + 1)?;
                 self.cursor.close(opening)?;
-                Ok(self.nodes.push(Node::new(operator, a, b)))
+                Ok(self.push(Node::new(operator, a, b)))
             }
         }
     }
@@ -62,12 +76,13 @@ pub(crate) fn read_whole(
     let mut reader = Reader {
         cursor: Cursor::new(text),
         questions,
-        nodes: Nodes { places, count: 0 },
+        places,
+        count: 0,
     };
     reader.formula(1)?;
     let (token, place) = reader.cursor.token();
     match token {
-        Token::End => Ok(reader.nodes.count),
+        Token::End => Ok(reader.count),
         _ => Err(Layer::Text.refusal(Cause::Unexpected, place)),
     }
 }

@@ -29,7 +29,7 @@ returns-in-End c =
       sentence = sentence c.args.text.now z.value (ahead c.formula.new.self.cursor) after (n.is ∙ c.in-End.is);
       within = z.good;
       counted = z.is.counted ∙ (omega arith);
-      written = (let is = z.is.written in let same = z.is.same_places in search rules);
+      written = z.is.written;
     }
 
 pub returns-in_default : goal.returns-in_default

@@ -34,33 +34,33 @@ returns-in_err-operator-in-Binary-clause-owes t c =
 
 pub returns-in_err-b-in-Binary-clause-owes : goal.returns-in_err-b-in-Binary-clause-owes
 returns-in_err-b-in-Binary-clause-owes t c =
-    broke _ _ _ _ _ _ _ c.from_residual-in_err-b-in-Binary.ensures.1 (second_fails _ _ _ _ _ (begun _ _ _ _ _ _ c.in_ok-head.ensures c.in-Binary.is) _ (c.in_ok-open-in-Binary.ensures _) _ _ _ c.in_ok-a-in-Binary.ensures.owes _ _ _ (c.in_ok-operator-in-Binary.ensures _) _ (subst (λ (q : ℕ). Refused (Form (c.args.level + 1)) q (ahead c.middle.new.self) c.in_err-b-in-Binary.field-0.0) c.in_ok-a-in-Binary.ensures.questions c.in_err-b-in-Binary.ensures.owes))
+    broke _ _ _ _ _ _ _ c.from_residual-in_err-b-in-Binary.ensures.1 (second_fails _ _ _ _ _ (begun _ _ _ _ _ _ c.in_ok-head.ensures c.in-Binary.is) _ (c.in_ok-open-in-Binary.ensures _) _ _ _ c.in_ok-a-in-Binary.ensures.owes _ _ _ (c.in_ok-operator-in-Binary.ensures _) _ (subst (λ (q : ℕ). Refused (Form (c.args.level + 1)) q (ahead c.middle.new.self) c.in_err-b-in-Binary.field-0.0) c.in_ok-a-in-Binary.ensures.same_questions c.in_err-b-in-Binary.ensures.owes))
 
 pub returns-in_err-close-in-Binary-clause-owes : goal.returns-in_err-close-in-Binary-clause-owes
 returns-in_err-close-in-Binary-clause-owes t c =
-    let g = asked_so _ _ _ _ _ _ _ c.in_ok-a-in-Binary.ensures.questions c.in_ok-b-in-Binary.ensures.owes in
+    let g = asked_so _ _ _ _ _ _ _ c.in_ok-a-in-Binary.ensures.same_questions c.in_ok-b-in-Binary.ensures.owes in
     broke _ _ _ _ _ _ _ c.from_residual-in_err-close-in-Binary.ensures.1 (close_fails _ _ _ _ _ (begun _ _ _ _ _ _ c.in_ok-head.ensures c.in-Binary.is) _ (c.in_ok-open-in-Binary.ensures _) _ _ _ c.in_ok-a-in-Binary.ensures.owes _ _ _ (c.in_ok-operator-in-Binary.ensures _) _ _ _ g _ (c.in_err-close-in-Binary.ensures _))
 
 pub returns-in-Truth-clause-owes : goal.returns-in-Truth-clause-owes
 returns-in-Truth-clause-owes t c =
-    truth_taken _ _ _ _ (begun _ _ _ _ _ _ c.in_ok-head.ensures c.in-Truth.is) _ _ (leaf_laid _ _ _ _ _ (ap (λ (n : Node). n ∷ []) (sym c.new.ensures)) c.push.ensures)
+    rw c.push.ensures.same_cursor (truth_taken _ _ _ _ (begun _ _ _ _ _ _ c.in_ok-head.ensures c.in-Truth.is) _ _ (leaf_laid _ _ _ _ _ _ _ (ap (λ (n : Node). n ∷ []) (sym c.new.ensures)) c.push.ensures.pushed))
 
 pub returns-in-Question-clause-owes : goal.returns-in-Question-clause-owes
 returns-in-Question-clause-owes t c =
-    question_taken _ _ _ _ _ (begun _ _ _ _ _ _ c.in_ok-head.ensures c.in-Question.is) _ _ (leaf_laid _ _ _ _ _ (ap (λ (n : Node). n ∷ []) (sym (c.new-in-Question.ensures ∙ ap (λ (a : ℕ). node 1 a 0) c.from.ensures))) c.push-in-Question.ensures)
+    rw c.push-in-Question.ensures.same_cursor (question_taken _ _ _ _ _ (begun _ _ _ _ _ _ c.in_ok-head.ensures c.in-Question.is) _ _ (leaf_laid _ _ _ _ _ _ _ (ap (λ (n : Node). n ∷ []) (sym (c.new-in-Question.ensures ∙ ap (λ (a : ℕ). node 1 a 0) c.from.ensures))) c.push-in-Question.ensures.pushed))
 
 pub returns-in_ok-a-in-Unary-clause-owes : goal.returns-in_ok-a-in-Unary-clause-owes
 returns-in_ok-a-in-Unary-clause-owes t c =
-    applied_taken _ _ _ _ _ (begun _ _ _ _ _ _ c.in_ok-head.ensures c.in-Unary.is) _ _ _ c.in_ok-a-in-Unary.ensures.owes _ _ (applied_laid _ _ _ _ _ _ _ _ c.in_ok-a-in-Unary.ensures.owes.is (c.new-in-Unary.ensures ∙ ap (λ (o : Operator). node (code_of o) c.in_ok-a-in-Unary.a 0) c.from-in-Unary.ensures) c.push-in-Unary.ensures)
+    rw c.push-in-Unary.ensures.same_cursor (applied_taken _ _ _ _ _ (begun _ _ _ _ _ _ c.in_ok-head.ensures c.in-Unary.is) _ _ _ c.in_ok-a-in-Unary.ensures.owes _ _ (applied_laid _ _ _ _ _ _ _ _ _ _ _ c.in_ok-a-in-Unary.ensures.owes.is (c.new-in-Unary.ensures ∙ ap (λ (o : Operator). node (code_of o) c.in_ok-a-in-Unary.a 0) c.from-in-Unary.ensures) c.push-in-Unary.ensures.pushed))
 
 pub returns-in_ok-close-in-Binary-clause-owes : goal.returns-in_ok-close-in-Binary-clause-owes
 returns-in_ok-close-in-Binary-clause-owes t c =
-    let g = asked_so _ _ _ _ _ _ _ c.in_ok-a-in-Binary.ensures.questions c.in_ok-b-in-Binary.ensures.owes in
-    joined_taken _ _ _ _ _ (begun _ _ _ _ _ _ c.in_ok-head.ensures c.in-Binary.is) _ (c.in_ok-open-in-Binary.ensures _) _ _ _ c.in_ok-a-in-Binary.ensures.owes _ _ _ (c.in_ok-operator-in-Binary.ensures _) _ _ _ g _ (c.in_ok-close-in-Binary.ensures _) _ _ (joined_laid _ _ _ _ _ _ _ _ _ _ _ _ c.in_ok-a-in-Binary.ensures.owes.is g.is (c.new-in-Binary.ensures ∙ ap (λ (o : Operator). node (code_of o) c.in_ok-a-in-Binary.a c.in_ok-b-in-Binary.b) (c.in_ok-operator-in-Binary.ensures c.args.self.now.questions).is) c.push-in-Binary.ensures)
+    let g = asked_so _ _ _ _ _ _ _ c.in_ok-a-in-Binary.ensures.same_questions c.in_ok-b-in-Binary.ensures.owes in
+    rw c.push-in-Binary.ensures.same_cursor (joined_taken _ _ _ _ _ (begun _ _ _ _ _ _ c.in_ok-head.ensures c.in-Binary.is) _ (c.in_ok-open-in-Binary.ensures _) _ _ _ c.in_ok-a-in-Binary.ensures.owes _ _ _ (c.in_ok-operator-in-Binary.ensures _) _ _ _ g _ (c.in_ok-close-in-Binary.ensures _) _ _ (joined_laid _ _ _ _ _ _ _ _ _ _ _ _ _ _ _ _ c.in_ok-a-in-Binary.ensures.owes.is g.is (c.new-in-Binary.ensures ∙ ap (λ (o : Operator). node (code_of o) c.in_ok-a-in-Binary.a c.in_ok-b-in-Binary.b) (c.in_ok-operator-in-Binary.ensures c.args.self.now.questions).is) c.push-in-Binary.ensures.pushed))
 
 pub push-requires-in-Unary : goal.push-requires-in-Unary
 push-requires-in-Unary t c =
-    omega (arith, head_left _ _ _ _ _ c.in_ok-head.ensures, formula_left _ _ _ _ _ _ _ c.in_ok-a-in-Unary.ensures.owes, c.requires.room)
+    omega (arith, head_left _ _ _ _ _ c.in_ok-head.ensures, formula_left _ _ _ _ _ _ _ _ _ c.in_ok-a-in-Unary.ensures.owes, c.requires.room)
 
 pub formula-requires-in-Binary : goal.formula-requires-in-Binary
 formula-requires-in-Binary t c =
@@ -77,7 +77,7 @@ formula-requires-in-Binary-2 t c =
           arith,
           head_left _ _ _ _ _ c.in_ok-head.ensures,
           phrase_left _ _ _ _ _ _ (c.in_ok-open-in-Binary.ensures 0),
-          formula_left _ _ _ _ _ _ _ c.in_ok-a-in-Binary.ensures.owes,
+          formula_left _ _ _ _ _ _ _ _ _ c.in_ok-a-in-Binary.ensures.owes,
           phrase_left _ _ _ _ _ _ (c.in_ok-operator-in-Binary.ensures 0),
           c.requires.room,
         ),
@@ -89,8 +89,8 @@ push-requires-in-Binary t c = omega (
   arith,
   head_left _ _ _ _ _ c.in_ok-head.ensures,
   phrase_left _ _ _ _ _ _ (c.in_ok-open-in-Binary.ensures 0),
-  formula_left _ _ _ _ _ _ _ c.in_ok-a-in-Binary.ensures.owes,
+  formula_left _ _ _ _ _ _ _ _ _ c.in_ok-a-in-Binary.ensures.owes,
   phrase_left _ _ _ _ _ _ (c.in_ok-operator-in-Binary.ensures 0),
-  formula_left _ _ _ _ _ _ _ c.in_ok-b-in-Binary.ensures.owes,
+  formula_left _ _ _ _ _ _ _ _ _ c.in_ok-b-in-Binary.ensures.owes,
   c.requires.room,
 )
