@@ -10,9 +10,9 @@ use Rattle.reader.specs.declared.token.Sign.TheVariants as sign
 use Rattle.reader.specs.declared.head.Opening.TheVariants.{Pair, Until}
 use Rattle.reader.specs.declared.head.Head.{Head}
 use Rattle.reader.specs.declared.head.Head.TheVariants as head
-use Rattle.reader.specs.Tokens.{Stream, first, rest, offset, After}
+use Rattle.reader.specs.Tokens.{Stream, first, rest, After}
 use Rattle.reader.specs.Grammar.{mark, marks, Asked}
-use Rattle.reader.specs.Phrases.{Signed, Link, conj, disj, linking, Linked, Form, joined_by, opening, head_of, Why, unasked, deep, Refused, Taken, Begun}
+use Rattle.reader.specs.Phrases.{Signed, Link, conj, disj, linking, Linked, Form, joined_by, opening, head_of, unasked, deep, Refused, Taken, Begun}
 use Rattle.reader.proofs.Streams.{Real, one_on}
 use Rattle.reader.proofs.Phrases.{clash, told, nothing_taken}
 use Rattle.reader.proofs.Heads.{Tail, built, built_marks, no_head}

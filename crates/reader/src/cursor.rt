@@ -1,4 +1,4 @@
-ghost use Rattle.std.specs.Prelude.{◌≡◌, ℕ, ◌≤◌, length};
+ghost use Rattle.std.specs.Prelude.{◌≡◌, ℕ, ◌+◌, ◌≤◌, length};
 ghost use Rattle.std.specs.List.{prefix_len};
 ghost use Rattle.reader.specs.Tokens.{is_space};
 
@@ -25,14 +25,15 @@ fn leading_spaces(text: &[u8]) -> usize
 }
 
 impl<'a> Cursor<'a> {
-    ghost use Rattle.reader.specs.Tokens.{tokens};
+    ghost use Rattle.reader.specs.Tokens.{kinds, tokens};
     ghost use Rattle.reader.specs.Phrases.{Begins, Linked, Middle, Opened, Owes, Signed, closing, joined_by};
     ghost use Rattle.reader.specs.Reading.{Passed, ahead};
     ghost use Rattle.reader.specs.declared.head.Opening.TheVariants.{Pair};
 
-    // The whole text.
+    // The whole text: it has no more tokens than bytes, and its end.
     pub(crate) fn new(text: &'a [u8]) -> Cursor<'a>
-        ensures { ahead result ≡ tokens 0 0 text.now }
+        ensures whole { ahead result ≡ tokens 0 0 text.now }
+        ensures few { length (kinds (ahead result)) ≤ length text.now + 1 }
     {
         Cursor { text, at: 0 }
     }

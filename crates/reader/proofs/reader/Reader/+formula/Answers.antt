@@ -1,4 +1,4 @@
-use Rattle.std.proofs.Common.{◌≡◌, ℕ, ◌+◌, List, [], ◌∷◌, sym, ◌∙◌, refl, ap, subst, arith}
+use Rattle.std.proofs.Common.{◌≡◌, ℕ, ◌+◌, [], ◌∷◌, sym, ◌∙◌, ap, subst, arith}
 use Rattle.kripke.specs.Nodes.{code_of}
 use Rattle.kripke.specs.declared.node.Node.{Node}
 use Rattle.kripke.specs.declared.operator.Operator.{Operator}
