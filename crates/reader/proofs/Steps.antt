@@ -1,7 +1,6 @@
 -- One token read where a sign, a link or a formula is to begin.
-use Rattle.std.proofs.Common.{◌≡◌, ℕ, ◌≤◌, List, [], ◌∷◌, Some, None, sym, refl, ap, ◌∙◌, subst, arith, ◌≢◌}
+use Rattle.std.proofs.Common.{◌≡◌, ℕ, ◌≤◌, List, [], ◌∷◌, Some, None, sym, refl, ap, ◌∙◌, subst, ◌≢◌}
 use Rattle.kripke.specs.Ctl.{Formula, question}
-use Rattle.kripke.specs.declared.operator.Operator.{Operator}
 use Rattle.kripke.specs.declared.refusal.Cause.TheVariants as cause
 use Rattle.reader.specs.declared.token.Token.{Token}
 use Rattle.reader.specs.declared.token.Token.TheVariants as token
@@ -10,34 +9,17 @@ use Rattle.reader.specs.declared.token.Sign.TheVariants as sign
 use Rattle.reader.specs.declared.head.Opening.TheVariants.{Pair, Until}
 use Rattle.reader.specs.declared.head.Head.{Head}
 use Rattle.reader.specs.declared.head.Head.TheVariants as head
-use Rattle.reader.specs.Tokens.{Stream, first, rest, After}
+use Rattle.reader.specs.Tokens.{Stream, first}
 use Rattle.reader.specs.Grammar.{mark, marks, Asked}
-use Rattle.reader.specs.Phrases.{Signed, Link, conj, disj, linking, Linked, Form, joined_by, opening, head_of, unasked, deep, Refused, Taken, Begun}
-use Rattle.reader.proofs.Streams.{Real, one_on}
+use Rattle.reader.specs.Phrases.{Signed, Link, conj, disj, linking, Linked, Form, opening, head_of, unasked, deep, Refused}
 use Rattle.reader.proofs.Phrases.{clash, told, nothing_taken}
 use Rattle.reader.proofs.Heads.{Tail, built, built_marks, no_head}
 
 -- A sign.
-pub sign_taken : (s s' : Stream) (g : Sign) → first s ≡ token.Sign g → rest s ≡ s' → (c : ℕ) → Taken {R = Unit {0}} (Signed g) (λ _ _. Unit {0}) c s tt s'
-sign_taken s s' g e h c = record {
-  value = tt;
-  is = tt;
-  after = subst (λ (z : Stream). After s (token.Sign g ∷ []) z) h (one_on s (token.Sign g) e tt);
-  good = ((omega arith, tt), tt);
-}
-
 pub sign_refused : (s : Stream) (g : Sign) → first s ≢ token.Sign g → (c : ℕ) → Refused (Signed g) c s (told cause.Unexpected s)
 sign_refused s g never c = nothing_taken (Signed g) c s (λ y r v h. never (cc))
 
 -- A link.
-pub link_taken : (s s' : Stream) (k : Link) → first s ≡ token.Sign (linking k) → rest s ≡ s' → (c : ℕ) → Taken {R = Operator} Linked (λ k operator. operator ≡ joined_by Pair k) c s (joined_by Pair k) s'
-link_taken s s' k e h c = record {
-  value = k;
-  is = refl;
-  after = subst (λ (z : Stream). After s (token.Sign (linking k) ∷ []) z) h (one_on s (token.Sign (linking k)) e tt);
-  good = ((omega arith, tt), tt);
-}
-
 pub link_refused : (s : Stream) → first s ≢ token.Sign sign.And → first s ≢ token.Sign sign.Or → (c : ℕ) → Refused Linked c s (told cause.Unexpected s)
 link_refused s never never' c = nothing_taken Linked c s go
   where
@@ -60,16 +42,6 @@ head_forth (token.Sign sign.Right) h e = clash cc
 head_forth (token.Sign sign.Until) h e = clash cc
 head_forth token.Other h e = clash cc
 head_forth token.End h e = clash cc
-
-opening_real : (h : Head) → Real (opening h)
-opening_real head.Truth = tt
-opening_real (head.Question j) = tt
-opening_real (head.Unary u) = tt
-opening_real (head.Binary Pair) = tt
-opening_real (head.Binary (Until q)) = tt
-
-pub begun : (c l : ℕ) (s s' : Stream) (h : Head) → first s ≡ opening h → rest s ≡ s' → l ≤ 64 → Asked c (opening h) → Begun c l s h s'
-begun c l s s' h e g le ok = record { after = subst (λ (z : Stream). After s (opening h ∷ []) z) g (one_on s (opening h) e (opening_real h)); good = (le, ok) }
 
 pub not_begun : (c l : ℕ) (s : Stream) → head_of (first s) ≡ None → Refused (Form l) c s (told cause.Unexpected s)
 not_begun c l s n = nothing_taken (Form l) c s (no_head l (first s) n)

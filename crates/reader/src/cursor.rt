@@ -72,7 +72,7 @@ impl<'a> Cursor<'a> {
         }
     }
 
-    // & or |.
+    // & or |, tested one by one: the last arm of a match would not say which signs are left out.
     fn link(&mut self) -> Result<Operator, Refusal>
         ensures { (c : ℕ) → Owes Linked (λ k operator. operator ≡ joined_by Pair k) c (ahead self.old) (ahead self.new) result }
     {
