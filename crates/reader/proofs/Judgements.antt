@@ -1,5 +1,5 @@
 -- The verdict on a text, from the two readings of it.
-use Rattle.std.proofs.Common.{◌≡◌, ℕ, ◌+◌, ◌<◌, ◌⊎◌, List, ◌++◌, length, drop, Ok, Err, Result, sym, ap, ◌∙◌, subst, inl, inr, ⊎_elim, arith}
+use Rattle.std.proofs.Common.{◌≡◌, ℕ, ◌+◌, ◌<◌, ◌⊎◌, List, ◌++◌, length, drop, Ok, Err, Result, sym, refl, ap, ◌∙◌, subst, inl, inr, ⊎_elim, arith}
 use Rattle.kripke.specs.Ctl.{Formula}
 use Rattle.kripke.specs.Refusals.{FirstBy, JudgedBy}
 use Rattle.kripke.specs.declared.node.Node.{Node}
@@ -18,14 +18,10 @@ use Rattle.reader.proofs.Verdicts.{one_formula, spotless, clean, not_both}
 
 -- What a refusal is made of.
 abbrev Is : Refusal → Cause → ℕ → Type 0
-Is e k p = (e.cause ≡ k) × (e.layer ≡ layer.Text) × (e.place ≡ p)
+Is e k p = e ≡ record { cause = k; layer = layer.Text; place = p }
 
 first_by : (V : Cause → ℕ → Type 0) (e : Refusal) (k : Cause) (p : ℕ) → Is e k p → V k p → ((d : Cause) (q : ℕ) → Sooner d q k p → V d q → ⊥) → FirstBy Sooner V layer.Text e
-first_by V e k p is b l = record {
-  broken = subst (V e.cause) (sym is.2) (subst (λ (x : Cause). V x p) (sym is.0) b);
-  least = λ d q so v. l d q (subst (Sooner d q k) is.2 (subst (λ (x : Cause). Sooner d q x e.place) is.0 so)) v;
-  layered = is.1;
-}
+first_by V e k p is b l = subst (FirstBy Sooner V layer.Text) (sym is) (record { broken = b; least = l; layered = refl })
 
 pub limits_told : (text : List ℕ) (q places : ℕ) (e : Refusal) → (4096 < length text) ⊎ ((q ≡ 0) ⊎ (32 < q)) → Is e cause.TextLimits 0 → FirstBy Sooner (Breach text q places) layer.Text e
 limits_told text q places e h is = first_by (Breach text q places) e cause.TextLimits 0 is (⊎_elim long unlimited h) least

@@ -3,7 +3,7 @@ use Rattle.std.proofs.Common.{◌≡◌, ℕ, zero, suc, ◌+◌, ◌-◌, ◌<�
 use Rattle.std.proofs.lemmas.List.{length-append, get_or_append_left, get_or-append_right}
 use Rattle.std.proofs.lemmas.Bool.{cases_lt}
 use Rattle.kripke.specs.Ctl.{Formula}
-use Rattle.kripke.specs.Nodes.{LawfulNode, blank, WellFormed}
+use Rattle.kripke.specs.Nodes.{code_of, LawfulNode, blank, WellFormed}
 use Rattle.kripke.specs.declared.node.Node.{Node}
 use Rattle.reader.specs.declared.token.Token.TheVariants as token
 use Rattle.reader.specs.declared.token.Unary.{Unary}
@@ -13,7 +13,7 @@ use Rattle.reader.specs.declared.head.Opening.{Opening}
 use Rattle.reader.specs.declared.head.Opening.TheVariants.{Pair, Until}
 use Rattle.reader.specs.declared.head.Head.TheVariants as head
 use Rattle.reader.specs.Grammar.{Mark, mark, marks, All, Within}
-use Rattle.reader.specs.Phrases.{conj, disj, Opened, Middle, closing, applied, applied_code, joined, joined_code}
+use Rattle.reader.specs.Phrases.{conj, disj, Opened, Middle, closing, applied, applied_by, joined, joined_by}
 use Rattle.reader.specs.Table.{node, nodes, table}
 use Rattle.reader.proofs.Heads.{built_marks, induction}
 use Rattle.reader.proofs.Tables.{applied_nodes, joined_nodes, some_node}
@@ -43,7 +43,7 @@ one_ordered : (q i : ℕ) (n : Node) → LawfulNode q i n → Ordered-from q i (
 one_ordered q i n h zero l = let e : i ≡ i + 0 = omega arith in subst (λ (m : ℕ). LawfulNode q m n) e h
 one_ordered q i n h (suc k) l = absurd (omega arith)
 
-applied_lawful : (q i a : ℕ) (u : Unary) → a < i → LawfulNode q i (node (applied_code u) a 0)
+applied_lawful : (q i a : ℕ) (u : Unary) → a < i → LawfulNode q i (node (code_of (applied_by u)) a 0)
 applied_lawful q i a unary.Not h = (omega arith, (h, refl))
 applied_lawful q i a unary.EX h = (omega arith, (h, refl))
 applied_lawful q i a unary.AX h = (omega arith, (h, refl))
@@ -52,7 +52,7 @@ applied_lawful q i a unary.AF h = (omega arith, (h, refl))
 applied_lawful q i a unary.EG h = (omega arith, (h, refl))
 applied_lawful q i a unary.AG h = (omega arith, (h, refl))
 
-joined_lawful : (q i a b : ℕ) (o : Opening) (m : (Middle o).A) → a < i → b < i → LawfulNode q i (node (joined_code o m) a b)
+joined_lawful : (q i a b : ℕ) (o : Opening) (m : (Middle o).A) → a < i → b < i → LawfulNode q i (node (code_of (joined_by o m)) a b)
 joined_lawful q i a b Pair conj h g = (omega arith, (h, g))
 joined_lawful q i a b Pair disj h g = (omega arith, (h, g))
 joined_lawful q i a b (Until Exists) m h g = (omega arith, (h, g))
@@ -65,14 +65,14 @@ lawful_applied : (q : ℕ) (u : Unary) (f : Formula) → Lawful-from q f → Law
 lawful_applied q u f h l i al =
     let some = some_node f i in
     subst (Ordered-from q i) (sym (applied_nodes i u f))
-    (append_ordered q i (nodes i f) (node (applied_code u) (i + length (nodes i f) - 1) 0 ∷ []) (h (suc l) i (subst (All q) (built_marks l (head.Unary u) f) al).1)
+    (append_ordered q i (nodes i f) (node (code_of (applied_by u)) (i + length (nodes i f) - 1) 0 ∷ []) (h (suc l) i (subst (All q) (built_marks l (head.Unary u) f) al).1)
     (one_ordered q (i + length (nodes i f)) _ (applied_lawful q (i + length (nodes i f)) _ u (omega arith))))
 
 lawful_joined : (q : ℕ) (o : Opening) (m : (Middle o).A) (f g : Formula) → Lawful-from q f → Lawful-from q g → Lawful-from q (joined o m f g)
 lawful_joined q o m f g h k l i al =
     let ns : List Node = nodes i f in
     let ms : List Node = nodes (i + length ns) g in
-    let n : Node = node (joined_code o m) (i + length ns - 1) (i + length ns + length ms - 1) in
+    let n : Node = node (code_of (joined_by o m)) (i + length ns - 1) (i + length ns + length ms - 1) in
     let some = some_node f i in
     let more = some_node g (i + length ns) in
     let after = all_right q ((Opened o).mk (Opened o).any) _ (subst (All q) (built_marks l (head.Binary o) ((Opened o).any, (f, (m, (g, tt))))) al).1 in

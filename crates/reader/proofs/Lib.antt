@@ -1,4 +1,3 @@
-pub mod Splits
 pub mod Streams
 pub mod Phrases
 pub mod Heads
@@ -8,6 +7,7 @@ pub mod Tables
 pub mod Lawful
 pub mod Places
 pub mod Ahead
+pub mod Room
 pub mod Steps
 pub mod Chains
 pub mod Formulas

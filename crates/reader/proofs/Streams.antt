@@ -5,7 +5,7 @@ use Rattle.reader.specs.declared.token.Token.TheVariants.{End, Truth, Question, 
 use Rattle.reader.specs.declared.token.Sign.TheVariants.{And, Or, Open, Close, Left, Right, Until}
 use Rattle.reader.specs.declared.token.Unary.TheVariants.{Not}
 use Rattle.reader.specs.declared.token.Quantifier.TheVariants.{Exists, Forall}
-use Rattle.reader.specs.Tokens.{single, operator, numeral, asking, acting, lex, Stream, done, next, first, rest, offset, kinds, After, tokens}
+use Rattle.reader.specs.Tokens.{single, operator, numeral, asking, acting, lex, Stream, done, next, first, offset, kinds, After, tokens}
 
 -- Any token but the end.
 abbrev pub Real : Token → Type 0
@@ -93,7 +93,3 @@ after_one (next o u s) (t ∷ ts) s1 s2 h g = after_one s ts s1 s2 h.1 g.1
 pub begins : (s : Stream) → (m : List Token) × (kinds s ≡ first s ∷ m)
 begins (done o) = ([], refl)
 begins (next o t s) = (kinds s, refl)
-
-pub one_on : (s : Stream) (t : Token) → first s ≡ t → Real t → After s (t ∷ []) (rest s)
-one_on (done o) t e r = absurd (subst Real (sym e) r)
-one_on (next o u s) t e r = (e, refl)

@@ -1,5 +1,5 @@
 -- What the reader refuses is what is to be told first, and a text that it reads breaks no rule.
-use Rattle.std.proofs.Common.{◌≡◌, ℕ, ◌<◌, ◌≤◌, ◌⊎◌, List, [], ◌∷◌, ◌++◌, length, sym, refl, ap, ◌∙◌, subst, ⊎_elim, append_assoc, append-nil, arith}
+use Rattle.std.proofs.Common.{◌≡◌, ℕ, ◌<◌, ◌≤◌, ◌⊎◌, List, [], ◌∷◌, ◌++◌, length, sym, refl, ap, ◌∙◌, subst, ⊎_elim, append_assoc, append-nil, arith, ◌≢◌}
 use Rattle.kripke.specs.Ctl.{Formula}
 use Rattle.kripke.specs.Refusals.{number_of, Clean, FirstBy}
 use Rattle.kripke.specs.declared.refusal.Refusal.{Refusal}
@@ -17,7 +17,7 @@ use Rattle.reader.specs.Phrases as why
 use Rattle.reader.specs.Reading.{Text}
 use Rattle.reader.proofs.Streams.{Real, Rising, rising, rising_after, after_kinds, after_one, begins}
 use Rattle.reader.proofs.Phrases.{toks-append, all_append, in_second, nothing_taken}
-use Rattle.reader.proofs.Steps.{Tells}
+use Rattle.reader.proofs.Phrases.{told as why_told}
 use Rattle.reader.proofs.Heads.{unique}
 use Rattle.reader.proofs.Clear.{expected, not_unasked, not_deep}
 use Rattle.reader.proofs.Orders.{compare, nearer}
@@ -154,8 +154,7 @@ sentence text f s h e =
     let z = rising_after 0 (tokens 0 0 text) (toks (marks 1 f)) s h (rising 0 0 text) in
     after_kinds (tokens 0 0 text) (toks (marks 1 f)) s h ∙ ap (λ l. toks (marks 1 f) ++ l) (ends z.0 s z.2 e) ∙ sym (toks-append (marks 1 f) (mark token.End 0 ∷ []))
 
-pub goes_past : (text : List ℕ) (q : ℕ) (f : Formula) (s : Stream) (e : Refusal) → After (tokens 0 0 text) (toks (marks 1 f)) s → All q (marks 1 f)
-    → (first s ≡ token.End → ⊥) → Tells s cause.Unexpected e → Refused Text q (tokens 0 0 text) e
-goes_past text q f s e h al never z =
-    in_second (Form 1) (Exact token.End) (λ g. unique g 1) q (tokens 0 0 text) s e f h al
-    (nothing_taken (Exact token.End) q s e z.here z.layered z.caused (λ y r v p. never (cc)))
+pub goes_past : (text : List ℕ) (q : ℕ) (f : Formula) (s : Stream) → After (tokens 0 0 text) (toks (marks 1 f)) s → All q (marks 1 f) → first s ≢ token.End
+    → Refused Text q (tokens 0 0 text) (why_told cause.Unexpected s)
+goes_past text q f s h al never =
+    in_second (Form 1) (Exact token.End) (λ g. unique g 1) q (tokens 0 0 text) s _ f h al (nothing_taken (Exact token.End) q s (λ y r v p. never (cc)))

@@ -1,6 +1,8 @@
 -- Phrases: the parts of a formula's text that the reader takes one after another, and what it owes of each.
-use Rattle.std.specs.Prelude.{◌≡◌, ℕ, ◌≤◌, Bool, true, false, List, [], ◌∷◌, ◌++◌, Some, None, Ok, Err, Option, Result, ◌≢◌}
+use Rattle.std.specs.Prelude.{◌≡◌, ℕ, ◌≤◌, List, [], ◌∷◌, ◌++◌, Some, None, Ok, Err, Option, Result, ◌≢◌}
 use Rattle.kripke.specs.Ctl.{Formula, truth, not, and, or, EX, AX, EF, AF, EG, AG, EU, AU}
+use Rattle.kripke.specs.declared.operator.Operator.{Operator}
+use Rattle.kripke.specs.declared.operator.Operator.TheVariants as operator
 use Rattle.kripke.specs.declared.refusal.Refusal.{Refusal}
 use Rattle.kripke.specs.declared.refusal.Layer.TheVariants as layer
 use Rattle.kripke.specs.declared.refusal.Cause.{Cause}
@@ -66,20 +68,20 @@ abbrev pub closing : Opening → Sign
 closing Pair = sign.Close
 closing (Until q) = sign.Right
 
--- The formula of two arguments, and its operator's code.
+-- The formula of two arguments, and its operator.
 abbrev pub joined : (o : Opening) → (Middle o).A → Formula → Formula → Formula
 joined Pair conj f g = and f g
 joined Pair disj f g = or f g
 joined (Until Exists) m f g = EU f g
 joined (Until Forall) m f g = AU f g
 
-abbrev pub joined_code : (o : Opening) → (Middle o).A → ℕ
-joined_code Pair conj = 3
-joined_code Pair disj = 4
-joined_code (Until Exists) m = 11
-joined_code (Until Forall) m = 12
+abbrev pub joined_by : (o : Opening) → (Middle o).A → Operator
+joined_by Pair conj = operator.And
+joined_by Pair disj = operator.Or
+joined_by (Until Exists) m = operator.EU
+joined_by (Until Forall) m = operator.AU
 
--- The formula of one argument, and its operator's code.
+-- The formula of one argument, and its operator.
 abbrev pub applied : Unary → Formula → Formula
 applied unary.Not f = not f
 applied unary.EX f = EX f
@@ -89,14 +91,14 @@ applied unary.AF f = AF f
 applied unary.EG f = EG f
 applied unary.AG f = AG f
 
-abbrev pub applied_code : Unary → ℕ
-applied_code unary.Not = 2
-applied_code unary.EX = 5
-applied_code unary.AX = 6
-applied_code unary.EF = 7
-applied_code unary.AF = 8
-applied_code unary.EG = 9
-applied_code unary.AG = 10
+abbrev pub applied_by : Unary → Operator
+applied_by unary.Not = operator.Not
+applied_by unary.EX = operator.EX
+applied_by unary.AX = operator.AX
+applied_by unary.EF = operator.EF
+applied_by unary.AF = operator.AF
+applied_by unary.EG = operator.EG
+applied_by unary.AG = operator.AG
 
 -- The first token of a formula.
 abbrev pub opening : Head → Token
@@ -121,11 +123,6 @@ head_of (token.Sign sign.Right) = None
 head_of (token.Sign sign.Until) = None
 head_of token.Other = None
 head_of token.End = None
-
--- Whether what begins is no question c or beyond.
-abbrev pub Answerable : ℕ → Head → Bool → Type 0
-Answerable c h true = Asked c (opening h)
-Answerable c h false = (j : ℕ) × (opening h ≡ token.Question j) × (c ≤ j)
 
 -- Why the token t is refused after the marks pre, which w continues: no P goes on with it, whatever follows; or it is a question c or beyond; or it begins a
 -- subformula at level 65.

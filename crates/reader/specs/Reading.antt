@@ -1,63 +1,38 @@
--- The reader's steps: what it has before it, and what it has written.
-use Rattle.std.specs.Prelude.{◌≡◌, ℕ, ◌+◌, ◌<◌, ◌≤◌, List, length, take, drop, Ok, Err, Result, ◌≢◌, slice_index}
+-- The reader's steps: what it has before it, and what it has made.
+use Rattle.std.specs.Prelude.{◌≡◌, ℕ, ◌+◌, List, length, drop, slice_set, Ok, Err, Result}
 use Rattle.kripke.specs.Ctl.{Formula}
 use Rattle.kripke.specs.declared.node.Node.{Node}
 use Rattle.kripke.specs.declared.refusal.Refusal.{Refusal}
 use Rattle.reader.specs.declared.token.Token.{Token}
 use Rattle.reader.specs.declared.token.Token.TheVariants.{End}
-use Rattle.reader.specs.declared.reader.Reader.{Reader}
+use Rattle.reader.specs.declared.cursor.Cursor.{Cursor}
 use Rattle.reader.specs.Tokens.{Stream, tokens, first, rest, offset}
 use Rattle.reader.specs.Grammar.{Sentence, Within}
 use Rattle.reader.specs.Table.{nodes, table, laid}
 use Rattle.reader.specs.Phrases.{Phrase, Then, Exact, Form, Refused}
 
--- The tokens from an offset on, and those that a reader has before it.
-abbrev pub ahead : List ℕ → ℕ → Stream
-ahead text at = tokens 0 at (drop at text)
+-- The tokens that a cursor has before it.
+abbrev pub ahead : Cursor → Stream
+ahead c = tokens 0 c.at (drop c.at c.text.now)
 
-abbrev pub view : Reader → Stream
-view r = ahead r.text.now r.at
-
--- A reader of a text of at most 4,096 bytes, which has made at most a node a byte.
-pub record Standing (r : Reader) : Type 0 where
-  pub within : r.at ≤ length r.text.now
-  pub short : length r.text.now ≤ 4096
-  pub few : r.used ≤ r.at
-
--- From at on the text has spaces up to at', and none there.
-pub record Trimmed (text : List ℕ) (at at' : ℕ) : Type 0 where
-  pub same : ahead text at' ≡ ahead text at
-  pub forward : at ≤ at'
-  pub within : at' ≤ length text
-  pub solid : at' < length text → slice_index text at' ≢ 32
-
--- The reader r has passed over the token t, the given part of its text.
-pub record Next (r : Reader) (t : Token) (part : List ℕ) (r' : Reader) : Type 0 where
-  pub is : first (view r) ≡ t
-  pub after : rest (view r) ≡ view r'
-  pub here : offset (view r) + length part ≡ r'.at
-  pub cut : part ≡ take (length part) (drop (offset (view r)) r.text.now)
-  pub forward : r.at ≤ r'.at
-  pub onward : (t ≢ End) → r.at < r'.at
-  pub used : r'.used ≡ r.used
-
--- The reader has gone on, and made no node.
-pub record Moved (r r' : Reader) : Type 0 where
-  pub standing : Standing r'
-  pub forward : r.at ≤ r'.at
-  pub used : r'.used ≡ r.used
-
--- The reader has gone on, and made at most a node a byte.
-pub record Grown (r r' : Reader) : Type 0 where
-  pub standing : Standing r'
-  pub few : r'.used + r.at ≤ r'.at + r.used
+-- From s to s' the token t at the place has been passed.
+pub record Passed (s : Stream) (t : Token) (place : ℕ) (s' : Stream) : Type 0 where
+  pub is : first s ≡ t
+  pub here : offset s ≡ place
+  pub after : rest s ≡ s'
 
 -- A whole text: a formula, and then the end.
 abbrev pub Text : Phrase
 Text = Then (Form 1) (Exact End)
 
--- The formula's nodes have been written, numbered from i on; its own is the last of them, and then comes number i'.
-pub record Laying (i : ℕ) (before : List Node) (f : Formula) (own : ℕ) (i' : ℕ) (after : List Node) : Type 0 where
+-- One more node has been made, number i, and written if there is a place for it.
+pub record Pushed (i : ℕ) (before : List Node) (n : Node) (own i' : ℕ) (after : List Node) : Type 0 where
+  pub own-is : own ≡ i
+  pub counted : i' ≡ i + 1
+  pub written : after ≡ slice_set before i n
+
+-- The formula's nodes have been made, numbered from i on; its own is the last of them, and then comes number i'.
+pub record Laying (i : ℕ) (before : List Node) (f : Formula) (own i' : ℕ) (after : List Node) : Type 0 where
   pub last : own + 1 ≡ i'
   pub counted : i' ≡ i + length (nodes i f)
   pub written : after ≡ laid before i (nodes i f)

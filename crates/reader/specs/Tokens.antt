@@ -1,6 +1,5 @@
 -- Tokens: where each token of a text stands.
-use Rattle.std.specs.Prelude.{◌≡◌, ℕ, zero, suc, ◌+◌, ◌-◌, ◌*◌, Bool, true, false, cond, ◌&&◌, List, [], ◌∷◌, length, take, drop, Some, None, Option, ◌==◌, nat_le}
-use Rattle.std.specs.Option.{option_map}
+use Rattle.std.specs.Prelude.{◌≡◌, ℕ, zero, suc, ◌+◌, ◌-◌, ◌*◌, Bool, cond, ◌&&◌, List, [], ◌∷◌, Some, None, Option, ◌==◌, nat_le}
 use Rattle.reader.specs.declared.token.Token.{Token}
 use Rattle.reader.specs.declared.token.Token.TheVariants.{Truth, Question, Alone, Sign, Other, End}
 use Rattle.reader.specs.declared.token.Token.TheVariants as token
@@ -8,11 +7,6 @@ use Rattle.reader.specs.declared.token.Sign.TheVariants.{And, Or, Open, Close, L
 use Rattle.reader.specs.declared.token.Unary.{Unary}
 use Rattle.reader.specs.declared.token.Unary.TheVariants.{Not, EX, AX, EF, AF, EG, AG}
 use Rattle.reader.specs.declared.token.Quantifier.TheVariants.{Exists, Forall}
-
--- Whether P holds.
-abbrev pub Decided : Type 0 → Bool → Type 0
-Decided P true = P
-Decided P false = P → ⊥
 
 -- The tokens of one byte: T ! & | ( ) [ ] U, E or A alone, and any other byte.
 abbrev pub single : ℕ → Token
@@ -29,10 +23,6 @@ abbrev pub operator : List ℕ → Option Unary
 operator [] = None
 operator (b ∷ []) = None
 operator (b ∷ c ∷ bs) = cond (b == 69) (step c EX EF EG) (cond (b == 65) (step c AX AF AG) None)
-
--- The same, with the text after it.
-abbrev pub operator_split : List ℕ → Option (Unary × List ℕ)
-operator_split bs = option_map {U = Unary × List ℕ} (λ u. (u, take (length bs - 2) (drop 2 bs))) (operator bs)
 
 -- The number that follows the sign q, and how many digits it has: two if there are two and the first is not 0, else one.
 abbrev pub digit : ℕ → Bool
@@ -60,6 +50,9 @@ lex (b ∷ bs) = cond (b == 113) (asking (numeral bs)) (acting b (operator (b �
 pub data Stream : Type 0 where
   done : ℕ → Stream
   next : ℕ → Token → Stream → Stream
+
+abbrev pub is_space : ℕ → Bool
+is_space b = b == 32
 
 -- The tokens from offset o on, where the first k bytes of what is left belong to a token before. Bytes 32, spaces, are passed over.
 unfoldable pub tokens : ℕ → ℕ → List ℕ → Stream

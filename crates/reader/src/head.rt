@@ -1,5 +1,7 @@
-ghost use Rattle.reader.specs.Phrases.{Answerable, applied_code, head_of};
-ghost use Rattle.std.specs.Prelude.{◌≡◌, Some, None};
+ghost use Rattle.reader.specs.Grammar.{Asked};
+ghost use Rattle.reader.specs.Phrases.{head_of, opening};
+ghost use Rattle.reader.specs.declared.token.Token.TheVariants.{Question};
+ghost use Rattle.std.specs.Prelude.{◌≡◌, ℕ, ◌≤◌, MatchBool, Some, None};
 
 use crate::token::{Quantifier, Sign, Token, Unary};
 
@@ -19,41 +21,25 @@ pub enum Head {
     Binary(Opening),
 }
 
-// What the token begins.
-pub(crate) fn head_of(token: Token) -> Option<Head>
-    ensures { result ≡ head_of token }
-{
-    match token {
-        Token::Truth => Some(Head::Truth),
-        Token::Question(j) => Some(Head::Question(j)),
-        Token::Unary(operator) => Some(Head::Unary(operator)),
-        Token::Alone(quantifier) => Some(Head::Binary(Opening::Until(quantifier))),
-        Token::Sign(Sign::Open) => Some(Head::Binary(Opening::Pair)),
-        _ => None,
+impl Head {
+    // What the token begins.
+    pub(crate) fn begun_by(token: Token) -> Option<Head>
+        ensures { result ≡ head_of token }
+    {
+        match token {
+            Token::Truth => Some(Head::Truth),
+            Token::Question(j) => Some(Head::Question(j)),
+            Token::Unary(operator) => Some(Head::Unary(operator)),
+            Token::Alone(quantifier) => Some(Head::Binary(Opening::Until(quantifier))),
+            Token::Sign(Sign::Open) => Some(Head::Binary(Opening::Pair)),
+            _ => None,
+        }
     }
-}
 
-// Whether the number of a question is below the count.
-pub(crate) fn asked(head: Head, questions: usize) -> bool
-    ensures { Answerable questions head result }
-{
-    match head {
-        Head::Question(j) => (j as usize) < questions,
-        _ => true,
-    }
-}
-
-// The node code of an operator of one argument.
-pub(crate) fn unary_code(operator: Unary) -> u8
-    ensures { result ≡ applied_code operator }
-{
-    match operator {
-        Unary::Not => 2,
-        Unary::EX => 5,
-        Unary::AX => 6,
-        Unary::EF => 7,
-        Unary::AF => 8,
-        Unary::EG => 9,
-        Unary::AG => 10,
+    // Whether it is a question beyond the count.
+    pub(crate) fn is_beyond(self, questions: usize) -> bool
+        ensures { MatchBool result ((j : ℕ) × (opening self ≡ Question j) × (questions ≤ j)) (Asked questions (opening self)) }
+    {
+        matches!(self, Head::Question(j) if usize::from(j) >= questions)
     }
 }

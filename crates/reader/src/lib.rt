@@ -10,10 +10,17 @@ ghost use Rattle.std.specs.Prelude.{◌≡◌, length};
 use kripke::node::Node;
 use kripke::refusal::Refusal;
 
+mod cursor;
 mod head;
 mod passes;
 mod reader;
 mod token;
+
+// A text has no more bytes.
+pub const TEXT_BYTES: usize = 4096;
+
+// A formula has no more levels.
+pub const LEVELS: u8 = 64;
 
 // Reads the text as a formula on the given number of questions: writes its nodes from the first place on, and gives their number.
 // The text is read twice, and the first time nothing is written: so a refusal changes nothing.

@@ -4,23 +4,18 @@ ghost use Rattle.kripke.specs.Refusals.{JudgedBy};
 ghost use Rattle.kripke.specs.declared.refusal.Layer.TheVariants.{Text};
 ghost use Rattle.reader.specs.Breaches.{Breach, Complete, Limited, Readable, Reads, Refuses, Sooner};
 
-use crate::reader::{read_whole, refusal};
-use kripke::node::Node;
-use kripke::refusal::{Cause, Refusal};
-
-// The most bytes of a text, the most questions of a kind, and the most nodes of a table.
-const TEXT_BYTES: usize = 4096;
-
-const QUESTIONS: usize = 32;
-
-const NODES: usize = 2045;
+use crate::TEXT_BYTES;
+use crate::reader::read_whole;
+use kripke::label::MOST_QUESTIONS;
+use kripke::node::{MOST_NODES, Node};
+use kripke::refusal::{Cause, Layer, Refusal};
 
 // The limits of the text and of the stated count of questions.
 fn check_limits(text: &[u8], questions: usize) -> Result<(), Refusal>
     ensures { MatchResult result (λ _. Limited text.now questions) (λ e. (places : ℕ) → Refuses text.now questions places e) }
 {
-    if text.len() > TEXT_BYTES || questions < 1 || questions > QUESTIONS {
-        return Err(refusal(Cause::TextLimits, 0));
+    if text.len() > TEXT_BYTES || questions < 1 || questions > MOST_QUESTIONS {
+        return Err(Layer::Text.refusal(Cause::TextLimits, 0));
     }
     Ok(())
 }
@@ -31,8 +26,8 @@ fn check_nodes(text: &[u8], questions: usize, room: usize) -> Result<(), Refusal
     ensures { MatchResult result (λ _. (f : Formula) × Readable text.now questions room f) (λ e. Refuses text.now questions room e) }
 {
     let count = read_whole(text, questions, &mut [])?;
-    if count > room || count > NODES {
-        return Err(refusal(Cause::ManyNodes, count));
+    if count > room || count > MOST_NODES {
+        return Err(Layer::Text.refusal(Cause::ManyNodes, count));
     }
     Ok(())
 }

@@ -1,9 +1,11 @@
-ghost use Rattle.std.specs.Prelude.{◌≡◌, ℕ, List, drop};
-ghost use Rattle.reader.specs.Tokens.{Decided, lex, numeral, operator_split, single};
-ghost use Rattle.std.specs.Option.{option_map};
+ghost use Rattle.std.specs.Prelude.{◌≡◌};
+ghost use Rattle.reader.specs.Phrases.{applied_by};
+ghost use Rattle.reader.specs.Tokens.{lex, numeral, operator, single};
+
+use kripke::operator::Operator;
 
 // The operators of one argument.
-#[derive(Clone, Copy)]
+#[derive(Clone, Copy, PartialEq, Eq)]
 pub enum Unary {
     Not,
     EX,
@@ -15,7 +17,7 @@ pub enum Unary {
 }
 
 // On some path, or on every one.
-#[derive(Clone, Copy)]
+#[derive(Clone, Copy, PartialEq, Eq)]
 pub enum Quantifier {
     Exists,
     Forall,
@@ -34,7 +36,7 @@ pub enum Sign {
 }
 
 // What stands in a text: T, a question, an operator of one argument, E or A alone, one of the other signs, any other byte, and the text's end.
-#[derive(Clone, Copy)]
+#[derive(Clone, Copy, PartialEq, Eq)]
 pub enum Token {
     Truth,
     Question(u8),
@@ -45,13 +47,19 @@ pub enum Token {
     End,
 }
 
-// Whether the token is the given sign.
-pub(crate) fn is_sign(token: Token, sign: Sign) -> bool
-    ensures { Decided (token ≡ Token.Sign sign) result }
-{
-    match token {
-        Token::Sign(found) => found == sign,
-        _ => false,
+impl From<Unary> for Operator {
+    ghost from_gives = { λ unary operator. operator ≡ applied_by unary };
+
+    fn from(unary: Unary) -> Operator {
+        match unary {
+            Unary::Not => Operator::Not,
+            Unary::EX => Operator::EX,
+            Unary::AX => Operator::AX,
+            Unary::EF => Operator::EF,
+            Unary::AF => Operator::AF,
+            Unary::EG => Operator::EG,
+            Unary::AG => Operator::AG,
+        }
     }
 }
 
@@ -59,33 +67,33 @@ pub(crate) fn is_sign(token: Token, sign: Sign) -> bool
 fn byte_token(byte: u8) -> Token
     ensures { result ≡ single byte }
 {
-    match byte as char {
-        'T' => Token::Truth,
-        '!' => Token::Unary(Unary::Not),
-        '&' => Token::Sign(Sign::And),
-        '|' => Token::Sign(Sign::Or),
-        '(' => Token::Sign(Sign::Open),
-        ')' => Token::Sign(Sign::Close),
-        '[' => Token::Sign(Sign::Left),
-        ']' => Token::Sign(Sign::Right),
-        'U' => Token::Sign(Sign::Until),
-        'E' => Token::Alone(Quantifier::Exists),
-        'A' => Token::Alone(Quantifier::Forall),
+    match byte {
+        b'T' => Token::Truth,
+        b'!' => Token::Unary(Unary::Not),
+        b'&' => Token::Sign(Sign::And),
+        b'|' => Token::Sign(Sign::Or),
+        b'(' => Token::Sign(Sign::Open),
+        b')' => Token::Sign(Sign::Close),
+        b'[' => Token::Sign(Sign::Left),
+        b']' => Token::Sign(Sign::Right),
+        b'U' => Token::Sign(Sign::Until),
+        b'E' => Token::Alone(Quantifier::Exists),
+        b'A' => Token::Alone(Quantifier::Forall),
         _ => Token::Other,
     }
 }
 
-// The operator of two signs that the text begins with, and the text after it.
-fn split_operator(text: &[u8]) -> Option<(Unary, &[u8])>
-    ensures { option_map {U = Unary × List ℕ} (λ p. (p.0, p.1.now)) result ≡ operator_split text.now }
+// The operator of two signs that the text begins with.
+fn leading_operator(text: &[u8]) -> Option<Unary>
+    ensures { result ≡ operator text.now }
 {
     match text {
-        [b'E', b'X', rest @ ..] => Some((Unary::EX, rest)),
-        [b'A', b'X', rest @ ..] => Some((Unary::AX, rest)),
-        [b'E', b'F', rest @ ..] => Some((Unary::EF, rest)),
-        [b'A', b'F', rest @ ..] => Some((Unary::AF, rest)),
-        [b'E', b'G', rest @ ..] => Some((Unary::EG, rest)),
-        [b'A', b'G', rest @ ..] => Some((Unary::AG, rest)),
+        [b'E', b'X', ..] => Some(Unary::EX),
+        [b'A', b'X', ..] => Some(Unary::AX),
+        [b'E', b'F', ..] => Some(Unary::EF),
+        [b'A', b'F', ..] => Some(Unary::AF),
+        [b'E', b'G', ..] => Some(Unary::EG),
+        [b'A', b'G', ..] => Some(Unary::AG),
         _ => None,
     }
 }
@@ -101,19 +109,19 @@ fn leading_number(text: &[u8]) -> Option<(u8, usize)>
     }
 }
 
-// The first token of a text, and the text after it.
-pub(crate) fn split_token(text: &[u8]) -> (Token, &[u8])
-    ensures { (result.0 ≡ (lex text.now).0) × (result.1.now ≡ drop (lex text.now).1 text.now) }
+// The token that the text begins with, and how many bytes it has.
+pub(crate) fn leading_token(text: &[u8]) -> (Token, usize)
+    ensures { result ≡ lex text.now }
 {
     match text {
-        [] => (Token::End, text),
+        [] => (Token::End, 0),
         [b'q', after @ ..] => match leading_number(after) {
-            Some((number, digits)) => (Token::Question(number), &after[digits..]),
-            None => (Token::Other, after),
+            Some((number, digits)) => (Token::Question(number), 1 + digits),
+            None => (Token::Other, 1),
         },
-        [byte, after @ ..] => match split_operator(text) {
-            Some((operator, rest)) => (Token::Unary(operator), rest),
-            None => (byte_token(*byte), after),
+        [byte, ..] => match leading_operator(text) {
+            Some(operator) => (Token::Unary(operator), 2),
+            None => (byte_token(*byte), 1),
         },
     }
 }

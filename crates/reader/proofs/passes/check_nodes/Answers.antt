@@ -1,7 +1,9 @@
-use Rattle.std.proofs.Common.{Result, sym, ◌∙◌, subst, inl, inr, ⊎_elim, arith, MatchResult}
+use Rattle.std.proofs.Common.{◌≡◌, ℕ, Result, sym, subst, inl, inr, ⊎_elim, arith, MatchResult}
 use Rattle.std.proofs.lemmas.Result.{err_from_is_err_and}
 use Rattle.kripke.specs.Ctl.{Formula}
 use Rattle.kripke.specs.declared.refusal.Refusal.{Refusal}
+use Rattle.kripke.specs.declared.refusal.Cause.TheVariants as cause
+use Rattle.kripke.specs.declared.refusal.Layer.TheVariants as layer
 use Rattle.reader.specs.Breaches.{Readable, Refuses}
 use Rattle.reader.proofs.Verdicts.{told}
 use Rattle.reader.proofs.Judgements.{many_told, refuses}
@@ -20,4 +22,4 @@ returns-then-count-room c =
     let r = c.refusal.ensures in
     refuses c.args.text.now c.args.questions c.args.room c.refusal.result
     (many_told c.args.text.now c.args.questions c.args.room c.requires w.formula w.sentence w.within c.refusal.result
-    (⊎_elim (λ h. inl (omega (arith, w.counted))) (λ h. inr (omega (arith, w.counted, h.1))) c.then-count-room.either) (r.0, r.1, r.2 ∙ w.counted))
+    (⊎_elim (λ h. inl (omega (arith, w.counted))) (λ h. inr (omega (arith, w.counted, h.1))) c.then-count-room.either) (subst (λ (n : ℕ). c.refusal.result ≡ record { cause = cause.ManyNodes; layer = layer.Text; place = n }) w.counted r))

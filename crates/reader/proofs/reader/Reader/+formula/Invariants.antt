@@ -1,4 +1,5 @@
+use Rattle.std.proofs.Common.{◌-◌}
 use Rattle.reader.proofs.reader.Reader.+formula.Given as goal
 
 abbrev pub decreases-formula : goal.decreases-formula
-decreases-formula l = l.levels
+decreases-formula l = 65 - l.level

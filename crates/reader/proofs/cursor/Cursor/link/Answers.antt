@@ -1,0 +1,12 @@
+use Rattle.std.proofs.Common.{◌≡◌, sym, ◌∙◌, rules}
+use Rattle.reader.specs.declared.token.Token.TheVariants.{Sign}
+use Rattle.reader.specs.declared.token.Sign.TheVariants.{And, Or}
+use Rattle.reader.proofs.Phrases.{told_at}
+use Rattle.reader.proofs.Steps.{link_refused}
+use Rattle.reader.proofs.cursor.Cursor.link.Goals as goal
+
+pub returns-else-eq-2 : goal.returns-else-eq-2
+returns-else-eq-2 c = λ n.
+    let z = c.token-token.ensures in
+    told_at _ n _ _ _ _ z.here c.refusal.ensures
+    (link_refused _ (λ e. let is : c.token-token.result.0 ≡ Sign And = sym z.is ∙ e in search rules) (λ e. let is : c.token-token.result.0 ≡ Sign Or = sym z.is ∙ e in search rules) n)
