@@ -1,3 +1,4 @@
 pub mod Putting
 pub mod Lines
 pub mod Refused
+pub mod Lengths

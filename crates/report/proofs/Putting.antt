@@ -4,7 +4,7 @@ use Rattle.std.proofs.lemmas.List.{length-append, length-take, length-drop}
 use Rattle.std.proofs.lemmas.Slice.{drop-append-drop}
 use Rattle.std.proofs.Math.Seq.{take-append_seam}
 use Rattle.report.specs.declared.cursor.Cursor.{Cursor}
-use Rattle.report.specs.Puts.{put, HasRoom, Puts}
+use Rattle.report.specs.Puts.{put, Countable, Puts}
 
 pub length-put : (at : ℕ) (text out : List ℕ) → at + length text ≤ length out → length (put at text out) ≡ length out
 length-put at text out h =
@@ -28,22 +28,22 @@ put-append at xs ys out h =
     rw (t, d, m) (append_assoc (take at out) xs (ys ++ r) ∙ ap (λ z. take at out ++ z) (sym (append_assoc xs ys r)))
 
 pub then : (xs ys : List ℕ) {a b c : Cursor} → Puts xs a b → Puts ys b c → Puts (xs ++ ys) a c
-then xs ys {a} {b} {c} p q =
-    let l : length b.out.now ≡ length a.out.now = ap length p.holds ∙ length-put a.at xs a.out.now p.room in
-    record {
-      room = omega (arith, p.ends, q.room, l, length-append xs ys);
-      same = q.same ∙ p.same;
-      ends = omega (arith, p.ends, q.ends, length-append xs ys);
-      holds = q.holds ∙ ap (put b.at ys) p.holds ∙ ap (λ k. put k ys (put a.at xs a.out.now)) p.ends ∙ put-append a.at xs ys a.out.now p.room;
-    }
+then xs ys {a} {b} {c} p q = record {
+  same = q.same ∙ p.same;
+  ends = omega (arith, p.ends, q.ends, length-append xs ys);
+  long = q.long ∙ p.long;
+  holds = λ h.
+      let fits : a.at + length xs ≤ length a.out.now = omega (arith, h, p.ends, q.ends, p.long, q.long) in
+      q.holds h ∙ ap (put b.at ys) (p.holds (omega (arith, fits, p.ends, p.long))) ∙ ap (λ k. put k ys (put a.at xs a.out.now)) p.ends
+      ∙ put-append a.at xs ys a.out.now fits;
+}
 
--- Where there is room for both texts, there is room for the first, and behind it for the second.
-pub first_room : (a : Cursor) (xs ys : List ℕ) → HasRoom (xs ++ ys) a → HasRoom xs a
-first_room a xs ys h = omega (arith, length-append xs ys, h)
+-- Where the end of both texts can be counted, that of the first can, and behind it that of the second.
+pub first_countable : (a : Cursor) (xs ys : List ℕ) → Countable (xs ++ ys) a → Countable xs a
+first_countable a xs ys h = omega (arith, length-append xs ys, h)
 
-pub rest_room : (xs ys : List ℕ) {a b : Cursor} → HasRoom (xs ++ ys) a → Puts xs a b → HasRoom ys b
-rest_room xs ys {a} {b} h p =
-    omega (arith, length-append xs ys, h, p.ends, ap length p.holds ∙ length-put a.at xs a.out.now p.room)
+pub rest_countable : (xs ys : List ℕ) {a b : Cursor} → Countable (xs ++ ys) a → Puts xs a b → Countable ys b
+rest_countable xs ys h p = omega (arith, length-append xs ys, h, p.ends)
 
 pub puts_same : {xs ys : List ℕ} {a b : Cursor} → xs ≡ ys → Puts xs a b → Puts ys a b
 puts_same {a = a} {b = b} e p = subst (λ (z : List ℕ). Puts z a b) e p

@@ -1,13 +1,13 @@
-ghost use Rattle.std.specs.Prelude.{◌≤◌, ◌++◌, length};
-ghost use Rattle.report.specs.Puts.{HasRoom, Puts, Written};
-ghost use Rattle.report.specs.Text.{node_line, node_lines, report_text};
+ghost use Rattle.std.specs.Prelude.{◌≡◌, ◌≤◌, ◌++◌, length};
+ghost use Rattle.report.specs.Puts.{Countable, Puts, Written};
+ghost use Rattle.report.specs.Text.{node_count, node_line, node_lines, report_text};
 
 use crate::report::Report;
 use itoa::{Buffer, Integer};
 use kripke::node::Node;
 
-// Given bytes that a text is put into, piece after piece, where there is room for it.
-// It is no `fmt::Write`: with one, a report could be refused for no reason that is known, since a failed write says none.
+// Puts a text into given bytes, piece after piece: each piece is counted, and written if it ends within the bytes.
+// A `Display` would do it if a write that fails said why: a report may be refused for its size and for nothing else.
 #[derive(Drop)]
 struct Cursor<'a> {
     out: &'a mut [u8],
@@ -16,17 +16,19 @@ struct Cursor<'a> {
 
 impl Cursor<'_> {
     fn put(&mut self, text: &str)
-        requires { HasRoom text.now self.old }
+        requires { Countable text.now self.old }
         ensures { Puts text.now self.old self.new }
     {
-        let end = self.at + text.len();
-        self.out[self.at..end].copy_from_slice(text.as_bytes());
-        self.at = end;
+        let start = self.at;
+        self.at += text.len();
+        if self.at <= self.out.len() {
+            self.out[start..self.at].copy_from_slice(text.as_bytes());
+        }
     }
 
     // A number, and the text after it.
     fn put_field<I: Integer>(&mut self, number: I, after: &str)
-        requires { HasRoom (I.text number ++ after.now) self.old }
+        requires { Countable (I.text number ++ after.now) self.old }
         ensures { Puts (I.text number ++ after.now) self.old self.new }
     {
         let mut digits = Buffer::new();
@@ -35,7 +37,7 @@ impl Cursor<'_> {
     }
 
     fn put_line(&mut self, i: usize, node: Node)
-        requires { HasRoom (node_line i node) self.old }
+        requires { Countable (node_line i node) self.old }
         ensures { Puts (node_line i node) self.old self.new }
     {
         self.put_field(i, " ");
@@ -45,7 +47,7 @@ impl Cursor<'_> {
     }
 
     fn put_lines(&mut self, nodes: &[Node])
-        requires { HasRoom (node_lines 0 nodes.now) self.old }
+        requires { Countable (node_lines 0 nodes.now) self.old }
         ensures { Puts (node_lines 0 nodes.now) self.old self.new }
     {
         for (i, node) in nodes.iter().enumerate() {
@@ -54,7 +56,7 @@ impl Cursor<'_> {
     }
 
     fn put_report(&mut self, report: Report)
-        requires { HasRoom (report_text report) self.old }
+        requires { Countable (report_text report) self.old }
         ensures { Puts (report_text report.entry) self.old self.new }
     {
         match report {
@@ -72,10 +74,11 @@ impl Cursor<'_> {
     }
 }
 
-// Writes the report's text from the start of the bytes, and answers its length.
+// Answers the length of the report's text, and writes it from the start of the bytes if it fits.
 pub(crate) fn write_text(report: Report, out: &mut [u8]) -> usize
-    requires { length (report_text report) ≤ length out.old }
-    ensures { Written (report_text report.entry) out.old result out.new }
+    requires { node_count report ≤ 2045 }
+    ensures long { result ≡ length (report_text report.entry) }
+    ensures written { result ≤ length out.old → Written (report_text report.entry) out.old result out.new }
 {
     let mut cursor = Cursor { out, at: 0 };
     cursor.put_report(report);

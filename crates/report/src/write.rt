@@ -1,55 +1,24 @@
-ghost use Rattle.std.specs.Prelude.{◌≡◌, ◌≤◌, length};
+ghost use Rattle.std.specs.Prelude.{◌≡◌, length};
 ghost use Rattle.kripke.specs.Refusals.{Judged, JudgedInMemory};
 ghost use Rattle.kripke.specs.declared.refusal.Layer.TheVariants.{Report as ReportLayer};
 ghost use Rattle.report.specs.Puts.{Written};
-ghost use Rattle.report.specs.Text.{Breach, Measured, node_line, node_lines, report_text};
+ghost use Rattle.report.specs.Text.{Breach, Measured, report_text};
 
 use crate::cursor::write_text;
 use crate::report::Report;
-use itoa::{Buffer, Integer};
-use kripke::node::{MOST_NODES, Node};
+use kripke::node::MOST_NODES;
 use kripke::refusal::{Cause, Error, Layer, Refusal};
 use std::alloc::Global;
-
-// How many digits a number has.
-fn digits<I: Integer>(number: I) -> usize
-    ensures value { result ≡ length (I.text number) }
-    ensures short { result ≤ I.MAX_STR_LEN }
-{
-    Buffer::new().format(number).len()
-}
-
-fn line_length(i: usize, node: Node) -> usize
-    ensures value { result ≡ length (node_line i node) }
-    ensures short { result ≤ 37 }
-{
-    digits(i) + digits(node.code) + digits(node.a) + digits(node.b) + 4
-}
-
-fn lines_length(nodes: &[Node]) -> usize
-    requires { length nodes.now ≤ 2045 }
-    ensures value { result ≡ length (node_lines 0 nodes.now) }
-    ensures short { result ≤ 75665 }
-{
-    let mut sum = 0;
-    for (i, node) in nodes.iter().enumerate() {
-        sum += line_length(i, *node);
-    }
-    sum
-}
 
 // How many bytes the report's text has; a report with too many nodes is refused.
 fn text_length(report: Report) -> Result<usize, Refusal>
     ensures { Measured report.entry result }
 {
     match report {
-        Report::Alike { rounds } => Ok(digits(rounds) + 7),
         Report::Different { nodes, .. } if nodes.len() > MOST_NODES => {
             Err(Layer::Report.refusal(Cause::ReportSize, 0))
         }
-        Report::Different { rounds, nodes } => {
-            Ok(digits(rounds) + digits(nodes.len()) + 9 + lines_length(nodes))
-        }
+        _ => Ok(write_text(report, &mut [])),
     }
 }
 
