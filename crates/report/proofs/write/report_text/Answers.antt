@@ -2,6 +2,7 @@ use Rattle.std.proofs.Common.{◌≡◌, ℕ, List, ◌++◌, length, take, drop
 use Rattle.std.proofs.lemmas.Result.{err_from_is_err_and}
 use Rattle.std.proofs.lemmas.List.{append-nil, take_all, take-append-le, drop_all}
 use Rattle.report.specs.Puts.{Written}
+use Rattle.report.specs.Text.{report_text}
 use Rattle.report.proofs.Refused.{refused, accepted}
 use Rattle.report.proofs.write.report_text.Goals as goal
 
@@ -21,5 +22,5 @@ returns-in_err-length c =
 pub returns : goal.returns
 returns c =
     let (few, long) = c.in_ok-length.ensures in
-    let n = c.in_ok-text.ensures.len ∙ long in
+    let n : c.in_ok-text.text.len ≡ length (report_text c.args.report) = omega (arith, c.in_ok-text.ensures.len, long) in
     (accepted _ _ (record { few = few; held = omega arith }), filled _ _ _ _ _ _ (c.as_mut_slice.ensures.len ∙ n) n (c.write_text.ensures.written (omega (arith, c.write_text.ensures.long, c.as_mut_slice.ensures.len, n))))

@@ -1,4 +1,4 @@
-use Rattle.std.proofs.Common.{refl, inl, inr, arith}
+use Rattle.std.proofs.Common.{refl, inl, inr, arith, rules}
 use Rattle.std.proofs.lemmas.Result.{err_from_is_err_and}
 use Rattle.report.proofs.Refused.{refused}
 use Rattle.report.proofs.write.write_report.Goals as goal
@@ -12,4 +12,4 @@ returns-in_err-text_length c =
 pub returns-then-branch-out : goal.returns-then-branch-out
 returns-then-branch-out c =
     let (few, long) = c.in_ok-text_length.ensures in
-    (refused _ _ _ c.refusal.ensures (inr (omega (arith, long, c.if-branch-out.true))), refl)
+    (refused _ _ _ (search rules) (inr (omega (arith, long, c.if-branch-out.true))), refl)

@@ -3,4 +3,4 @@ use Rattle.report.proofs.Putting.{then}
 use Rattle.report.proofs.cursor.Cursor.put_field.Goals as goal
 
 pub returns : goal.returns
-returns g c = rw (sym c.format.ensures.text) (then _ _ c.put.ensures c.put-2.ensures)
+returns g c = rw (sym c.format.ensures.text) (search then)
