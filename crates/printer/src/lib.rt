@@ -27,9 +27,9 @@ pub fn print_formula(
     if nodes.is_empty() || questions < 1 || questions > MOST_QUESTIONS {
         return Ok(None);
     }
-    if first_disordered(nodes, questions).is_some() {
+    let None = first_disordered(nodes, questions) else {
         return Ok(None);
-    }
+    };
     let mut writer = Writer::new(heap);
     match writer.put_formula(nodes, nodes.len() - 1, LEVELS) {
         Ok(()) => Ok(Some(writer.into_text())),

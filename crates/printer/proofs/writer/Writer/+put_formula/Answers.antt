@@ -1,4 +1,4 @@
-use Rattle.std.proofs.Common.{suc, arith}
+use Rattle.std.proofs.Common.{◌≡◌, suc, ◌+◌, ◌-◌, arith}
 use Rattle.std.proofs.lemmas.Result.{err_from_is_err_and}
 use Rattle.kripke.specs.Nodes.{formula}
 use Rattle.printer.proofs.Writings.{level}
@@ -56,12 +56,14 @@ returns-in_err-put-in-Around-2 t c q l w e =
 
 pub returns-in_err-put_formula-in-Around-2 : goal.returns-in_err-put_formula-in-Around-2
 returns-in_err-put_formula-in-Around-2 t c q l w e =
+    let d : suc l + (c.args.levels - 1) ≡ 65 = omega arith in
     let p = err_from_is_err_and c.from_residual-in_err-put_formula-in-Around-2.result c.from_residual-in_err-put_formula-in-Around-2.ensures.1 in
     let z = two_at q c.args.nodes.now w c.args.i c.requires.node l (omega arith) c.in-Around.before c.in-Around.between c.in-Around.after (at_code _ _ _ c.in-Ok.ensures c.in-Around.ensures) in
     rw (p.1, p.2)
-    (two_stops_4 q z _ _ c.in_ok-put-in-Around.ensures _ (c.in_ok-put_formula-in-Around.ensures q (suc l) w (omega arith)) _ c.in_ok-put-in-Around-2.ensures c.put_formula-in-Around-2.new.self _ (c.in_err-put_formula-in-Around-2.ensures q (suc l) w (omega arith)))
+    (two_stops_4 q z _ _ c.in_ok-put-in-Around.ensures _ (c.in_ok-put_formula-in-Around.ensures q (suc l) w (omega arith)) _ c.in_ok-put-in-Around-2.ensures c.put_formula-in-Around-2.new.self _ (search (c.in_err-put_formula-in-Around-2.ensures, w, d)))
 
 pub returns-in_ok-put_formula-in-Around-2 : goal.returns-in_ok-put_formula-in-Around-2
 returns-in_ok-put_formula-in-Around-2 t c q l w e =
+    let d : suc l + (c.args.levels - 1) ≡ 65 = omega arith in
     let z = two_at q c.args.nodes.now w c.args.i c.requires.node l (omega arith) c.in-Around.before c.in-Around.between c.in-Around.after (at_code _ _ _ c.in-Ok.ensures c.in-Around.ensures) in
-    two_ends q z _ _ c.in_ok-put-in-Around.ensures _ (c.in_ok-put_formula-in-Around.ensures q (suc l) w (omega arith)) _ c.in_ok-put-in-Around-2.ensures _ (c.in_ok-put_formula-in-Around-2.ensures q (suc l) w (omega arith)) _ _ c.put-in-Around-3.ensures
+    two_ends q z _ _ c.in_ok-put-in-Around.ensures _ (c.in_ok-put_formula-in-Around.ensures q (suc l) w (omega arith)) _ c.in_ok-put-in-Around-2.ensures _ (search (c.in_ok-put_formula-in-Around-2.ensures, w, d)) _ _ c.put-in-Around-3.ensures
