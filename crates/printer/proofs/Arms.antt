@@ -1,5 +1,5 @@
 -- What is written of a node: its parts one after another, or a stop at one of them.
-use Rattle.std.proofs.Common.{◌≡◌, ℕ, suc, List, ◌++◌, get_or, Ok, Err, Result, sym, subst}
+use Rattle.std.proofs.Common.{ℕ, suc, List, ◌++◌, get_or, Ok, Err, Result, sym, subst}
 use Rattle.kripke.specs.Nodes.{formula, blank}
 use Rattle.kripke.specs.declared.node.Node.{Node}
 use Rattle.reader.specs.Grammar.{Mark, marks}
@@ -8,13 +8,7 @@ use Rattle.printer.specs.Writing.{Appends, Spells, Spelt}
 use Rattle.printer.proofs.Writings.{appended, then, stop}
 use Rattle.printer.proofs.Parts.{OneAt, TwoAt}
 
--- The exit of a `?`.
-pub exit : (q : ℕ) (b : List ℕ) (ms : List Mark) (b1 : List ℕ) (r : Result (Unit {0}) Stop) (y e : Stop) → r ≡ Err y → y ≡ e
-    → Spells q b ms b1 (Err e) → Spells q b ms b1 r
-exit q b ms b1 r y e is same h =
-    subst (λ (x : Result (Unit {0}) Stop). Spells q b ms b1 x) (sym is) (subst (λ (s : Stop). Spells q b ms b1 (Err s)) (sym same) h)
-
-module _ (q : ℕ) (ns : List Node) (i l : ℕ) (x : List ℕ) (z : OneAt ns i l x) (b b1 : List ℕ) where
+module _ (q : ℕ) {ns : List Node} {i l : ℕ} {x : List ℕ} (z : OneAt ns i l x) (b b1 : List ℕ) where
   abbrev rest : List Mark
   rest = marks (suc l) (formula ns (get_or ns i blank).a)
 
@@ -22,11 +16,11 @@ module _ (q : ℕ) (ns : List Node) (i l : ℕ) (x : List ℕ) (z : OneAt ns i l
   one_stops e h =
       subst (λ (ms : List Mark). Spells q b ms b1 (Err e)) (sym z.is) (stop q b b1 z.part rest e (appended q b z.part x b1 (Err e) (z.good q) z.spells h))
 
-  pub one_ends : (u : Unit {0}) (b2 : List ℕ) (r : Result (Unit {0}) Stop) → Appends b x b1 (Ok u) → Spells q b1 rest b2 r → Spells q b (marks l (formula ns i)) b2 r
-  one_ends u b2 r h g =
-      subst (λ (ms : List Mark). Spells q b ms b2 r) (sym z.is) (then q b b1 b2 z.part rest r (appended q b z.part x b1 (Ok u) (z.good q) z.spells h) g)
+  pub one_ends : Appends b x b1 (Ok tt) → (b2 : List ℕ) (r : Result (Unit {0}) Stop) → Spells q b1 rest b2 r → Spells q b (marks l (formula ns i)) b2 r
+  one_ends h b2 r g =
+      subst (λ (ms : List Mark). Spells q b ms b2 r) (sym z.is) (then q b b1 b2 z.part rest r (appended q b z.part x b1 (Ok tt) (z.good q) z.spells h) g)
 
-module _ (q : ℕ) (ns : List Node) (i l : ℕ) (x y w : List ℕ) (z : TwoAt ns i l x y w) (b b1 : List ℕ) where
+module _ (q : ℕ) {ns : List Node} {i l : ℕ} {x y w : List ℕ} (z : TwoAt ns i l x y w) (b b1 : List ℕ) where
   abbrev f : List Mark
   f = marks (suc l) (formula ns (get_or ns i blank).a)
 
@@ -48,9 +42,9 @@ module _ (q : ℕ) (ns : List Node) (i l : ℕ) (x y w : List ℕ) (z : TwoAt ns
   pub two_stops_1 : (e : Stop) → Appends b x b1 (Err e) → Spells q b (marks l (formula ns i)) b1 (Err e)
   two_stops_1 e h = whole b1 (Err e) (stop q b b1 z.first (f ++ (z.middle ++ (g ++ z.last))) e (first (Err e) h))
 
-  module _ (u : Unit {0}) (h1 : Appends b x b1 (Ok u)) (b2 : List ℕ) where
+  module _ (h1 : Appends b x b1 (Ok tt)) (b2 : List ℕ) where
     on_1 : (b' : List ℕ) (r : Result (Unit {0}) Stop) → Spells q b1 (f ++ (z.middle ++ (g ++ z.last))) b' r → Spells q b (marks l (formula ns i)) b' r
-    on_1 b' r h = whole b' r (then q b b1 b' z.first (f ++ (z.middle ++ (g ++ z.last))) r (first (Ok u) h1) h)
+    on_1 b' r h = whole b' r (then q b b1 b' z.first (f ++ (z.middle ++ (g ++ z.last))) r (first (Ok tt) h1) h)
 
     pub two_stops_2 : (e : Stop) → Spells q b1 f b2 (Err e) → Spells q b (marks l (formula ns i)) b2 (Err e)
     two_stops_2 e h = on_1 b2 (Err e) (stop q b1 b2 f (z.middle ++ (g ++ z.last)) e h)
@@ -62,9 +56,9 @@ module _ (q : ℕ) (ns : List Node) (i l : ℕ) (x y w : List ℕ) (z : TwoAt ns
       pub two_stops_3 : (e : Stop) → Appends b2 y b3 (Err e) → Spells q b (marks l (formula ns i)) b3 (Err e)
       two_stops_3 e h = on_2 b3 (Err e) (stop q b2 b3 z.middle (g ++ z.last) e (middle b2 b3 (Err e) h))
 
-      module _ (v : Unit {0}) (h3 : Appends b2 y b3 (Ok v)) (b4 : List ℕ) where
+      module _ (h3 : Appends b2 y b3 (Ok tt)) (b4 : List ℕ) where
         on_3 : (b' : List ℕ) (r : Result (Unit {0}) Stop) → Spells q b3 (g ++ z.last) b' r → Spells q b (marks l (formula ns i)) b' r
-        on_3 b' r h = on_2 b' r (then q b2 b3 b' z.middle (g ++ z.last) r (middle b2 b3 (Ok v) h3) h)
+        on_3 b' r h = on_2 b' r (then q b2 b3 b' z.middle (g ++ z.last) r (middle b2 b3 (Ok tt) h3) h)
 
         pub two_stops_4 : (e : Stop) → Spells q b3 g b4 (Err e) → Spells q b (marks l (formula ns i)) b4 (Err e)
         two_stops_4 e h = on_3 b4 (Err e) (stop q b3 b4 g z.last e h)

@@ -74,19 +74,6 @@ question_of asking fs q i a b h o = (refl, o.0)
 question_of (unary op) fs q i a b h o = absurd h
 question_of (binary op) fs q i a b h o = absurd h
 
--- The operands are earlier nodes.
-pub one_earlier : (op : Operator) (q i a b : ℕ) (x : _) → Written op (Before x) → Ordered op q i a b → a < i
-one_earlier constant q i a b x h o = absurd h
-one_earlier asking q i a b x h o = absurd h
-one_earlier (unary op) q i a b x h o = o.0
-one_earlier (binary op) q i a b x h o = absurd h
-
-pub two_earlier : (op : Operator) (q i a b : ℕ) (x y z : _) → Written op (Around x y z) → Ordered op q i a b → (a < i) × (b < i)
-two_earlier constant q i a b x y z h o = absurd h
-two_earlier asking q i a b x y z h o = absurd h
-two_earlier (unary op) q i a b x y z h o = absurd h
-two_earlier (binary op) q i a b x y z h o = o
-
 module _ (q : ℕ) (ns : List Node) (w : WellFormed q ns) (i : ℕ) (li : i < length ns) (l : ℕ) (le : l ≤ 64) where
   abbrev n : Node
   n = get_or ns i blank

@@ -28,17 +28,13 @@ all_right : (c : ℕ) (a b : List Mark) → All c (a ++ b) → All c b
 all_right c [] b h = h
 all_right c (mark t m ∷ a) b h = all_right c a b h.1
 
--- No more than 4,096 bytes are there.
-pub spelt_short : (q : ℕ) (before : List ℕ) (ms : List Mark) (after : List ℕ) → Spelt q before ms after → length after ≤ 4096
-spelt_short q before ms after h = omega (arith, ap length h.is, length-append before (spelt (toks ms)), h.fits.1)
-
 -- Marks that are appended, as a text that they are spelt as.
 pub appended : (q : ℕ) (before : List ℕ) (ms : List Mark) (text after : List ℕ) (r : Result (Unit {0}) Stop) → All q ms → text ≡ spelt (toks ms)
     → Appends before text after r → Spells q before ms after r
 appended q before ms text after (Ok x) al e h =
     record { is = h.0 ∙ ap (λ l. before ++ l) e; fits = (al, omega (arith, ap length h.0, length-append before text, ap length e, h.1)) }
 appended q before ms text after (Err Limit) al e h = λ fits. omega (arith, ap length e, fits.1)
-appended q before ms text after (Err Memory) al e h = tt
+appended q before ms text after (Err (Memory m)) al e h = tt
 
 -- Marks, and then more of them; and a stop at the first.
 pub then : (q : ℕ) (b b1 b2 : List ℕ) (ms ns : List Mark) (r : Result (Unit {0}) Stop) → Spelt q b ms b1 → Spells q b1 ns b2 r → Spells q b (ms ++ ns) b2 r
@@ -52,11 +48,11 @@ then q b b1 b2 ms ns (Ok x) h g =
     }
 then q b b1 b2 ms ns (Err Limit) h g = λ fits.
     g (all_right q ms ns fits.0, omega (arith, ap length h.is, length-append b (spelt (toks ms)), length-spelt ms ns, fits.1))
-then q b b1 b2 ms ns (Err Memory) h g = tt
+then q b b1 b2 ms ns (Err (Memory m)) h g = tt
 
 pub stop : (q : ℕ) (b b1 : List ℕ) (ms ns : List Mark) (e : Stop) → Spells q b ms b1 (Err e) → Spells q b (ms ++ ns) b1 (Err e)
 stop q b b1 ms ns Limit h = λ fits. h (all_left q ms ns fits.0, omega (arith, length-spelt ms ns, fits.1))
-stop q b b1 ms ns Memory h = tt
+stop q b b1 ms ns (Memory m) h = tt
 
 -- A formula at level l has no level above l.
 pub level : (c l : ℕ) (f : Formula) → All c (marks l f) → l ≤ 64

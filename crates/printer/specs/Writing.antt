@@ -17,7 +17,7 @@ use Rattle.printer.specs.Spelling.{spell, spelt}
 abbrev pub Appends : List ℕ → List ℕ → List ℕ → Result (Unit {0}) Stop → Type 0
 Appends before text after (Ok _) = (after ≡ before ++ text) × (length after ≤ 4096)
 Appends before text after (Err Limit) = 4096 < length before + length text
-Appends before text after (Err Memory) = Unit {0}
+Appends before text after (Err (Memory e)) = Unit {0}
 
 -- The marks are within the limits for q questions, and the bytes within 4,096.
 abbrev pub Fits : ℕ → List ℕ → List Mark → Type 0
@@ -31,7 +31,7 @@ pub record Spelt (q : ℕ) (before : List ℕ) (ms : List Mark) (after : List �
 abbrev pub Spells : ℕ → List ℕ → List Mark → List ℕ → Result (Unit {0}) Stop → Type 0
 Spells q before ms after (Ok _) = Spelt q before ms after
 Spells q before ms after (Err Limit) = Fits q before ms → ⊥
-Spells q before ms after (Err Memory) = Unit {0}
+Spells q before ms after (Err (Memory e)) = Unit {0}
 
 abbrev pub sign : Sign → Mark
 sign s = mark (token.Sign s) 0

@@ -2,34 +2,18 @@
 
 #![tactic(auto)]
 
-ghost use Rattle.kripke.specs.Nodes.{WellFormed};
 ghost use Rattle.printer.specs.Printed.{Printed};
 ghost use Rattle.printer.specs.Theorems.{ReadBack};
-ghost use Rattle.std.specs.Prelude.{string_bytes, MatchBool};
+ghost use Rattle.std.specs.Prelude.{string_bytes};
 
-use crate::writer::{Stop, write};
-use kripke::node::Node;
+use crate::writer::{Stop, Writer};
+use kripke::label::MOST_QUESTIONS;
+use kripke::node::{Node, first_disordered};
+use reader::LEVELS;
 use std::alloc::{AllocError, Global};
 
 mod signs;
 mod writer;
-
-// The most questions of a kind, and the most levels of a formula.
-const QUESTIONS: usize = 32;
-
-const LEVELS: u8 = 64;
-
-// Whether every node is in order.
-fn well_formed(nodes: &[Node], questions: usize) -> bool
-    ensures { MatchBool result (WellFormed questions nodes.now) (WellFormed questions nodes.now → ⊥) }
-{
-    for i in 0..nodes.len() {
-        if !nodes[i].in_order(questions, i) {
-            return false;
-        }
-    }
-    true
-}
 
 // The root's formula as a text that the reader of formulas reads; a node that is named twice is written twice.
 // None if there is no such text: for a table that is empty or not in order, and beyond the reader's limits of questions, levels and bytes.
@@ -40,19 +24,17 @@ pub fn print_formula(
 ) -> Result<Option<String>, AllocError>
     ensures { Printed string_bytes questions nodes.now result }
 {
-    if nodes.is_empty() || questions < 1 || questions > QUESTIONS {
+    if nodes.is_empty() || questions < 1 || questions > MOST_QUESTIONS {
         return Ok(None);
     }
-    if !well_formed(nodes, questions) {
+    let None = first_disordered(nodes, questions) else {
         return Ok(None);
-    }
-    let mut text = String::new(heap);
-    match write(heap, nodes, nodes.len() - 1, LEVELS, &mut text) {
-        Ok(()) => Ok(Some(text)),
-        Err(stop) => match stop {
-            Stop::Limit => Ok(None),
-            Stop::Memory => Err(AllocError),
-        },
+    };
+    let mut writer = Writer::new(heap);
+    match writer.put_formula(nodes, nodes.len() - 1, LEVELS) {
+        Ok(()) => Ok(Some(writer.into_text())),
+        Err(Stop::Limit) => Ok(None),
+        Err(Stop::Memory(error)) => Err(error),
     }
 }
 

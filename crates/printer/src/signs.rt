@@ -1,6 +1,8 @@
-ghost use Rattle.kripke.specs.Nodes.{constant, operators};
+ghost use Rattle.kripke.specs.Nodes.{code_of, constant, operators};
 ghost use Rattle.printer.specs.Writing.{Written};
-ghost use Rattle.std.specs.Prelude.{◌<◌, slice_index_or};
+ghost use Rattle.std.specs.Prelude.{slice_index_or};
+
+use kripke::operator::Operator;
 
 // How an operator is written: as T, as a question, with a sign before its argument, or with signs before, between and after its two arguments.
 #[derive(Clone, Copy)]
@@ -11,24 +13,24 @@ pub enum Signs {
     Around(&'static str, &'static str, &'static str),
 }
 
-// The signs of the operator with this code.
-pub(crate) fn signs_of(code: u8) -> Signs
-    requires { code < 13 }
-    ensures { Written (slice_index_or operators code constant) result }
-{
-    match code {
-        0 => Signs::Truth,
-        1 => Signs::Question,
-        2 => Signs::Before("!"),
-        3 => Signs::Around("(", "&", ")"),
-        4 => Signs::Around("(", "|", ")"),
-        5 => Signs::Before("EX "),
-        6 => Signs::Before("AX "),
-        7 => Signs::Before("EF "),
-        8 => Signs::Before("AF "),
-        9 => Signs::Before("EG "),
-        10 => Signs::Before("AG "),
-        11 => Signs::Around("E[", " U ", "]"),
-        _ => Signs::Around("A[", " U ", "]"),
+impl From<Operator> for Signs {
+    ghost from_gives = { λ operator signs. Written (slice_index_or operators (code_of operator) constant) signs };
+
+    fn from(operator: Operator) -> Signs {
+        match operator {
+            Operator::Truth => Signs::Truth,
+            Operator::Question => Signs::Question,
+            Operator::Not => Signs::Before("!"),
+            Operator::And => Signs::Around("(", "&", ")"),
+            Operator::Or => Signs::Around("(", "|", ")"),
+            Operator::EX => Signs::Before("EX "),
+            Operator::AX => Signs::Before("AX "),
+            Operator::EF => Signs::Before("EF "),
+            Operator::AF => Signs::Before("AF "),
+            Operator::EG => Signs::Before("EG "),
+            Operator::AG => Signs::Before("AG "),
+            Operator::EU => Signs::Around("E[", " U ", "]"),
+            Operator::AU => Signs::Around("A[", " U ", "]"),
+        }
     }
 }

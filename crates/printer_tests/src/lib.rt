@@ -2,18 +2,19 @@
 
 #![tactic(auto)]
 
+ghost use Rattle.std.specs.Prelude.{ℕ};
+
 #[cfg(test)]
 mod tests {
     use kripke::node::Node;
+    use kripke::operator::Operator::{
+        AF, AG, AU, AX, And, EF, EG, EU, EX, Not, Or, Question, Truth,
+    };
     use printer::print_formula;
     use reader::read_formula;
     use std::alloc::Global;
     use std::process::Abort;
     use std::test::Fail;
-
-    fn node(code: u8, a: u16, b: u16) -> Node {
-        Node { code, a, b }
-    }
 
     // The table is printed so, and so is the table that is read from the text.
     fn printed(rt: &impl Abort, heap: Global, nodes: &[Node], expected: &str) -> Result<(), Fail> {
@@ -21,7 +22,7 @@ mod tests {
             return Err(Fail::new("not printed"));
         };
         assert!(rt; text.as_str() == expected);
-        let mut places = [node(0, 0, 0); 64];
+        let mut places = [Node::default(); 64];
         let Ok(count) = read_formula(text.as_bytes(), 32, &mut places) else {
             return Err(Fail::new("not read"));
         };
@@ -36,25 +37,44 @@ mod tests {
     #[test]
     fn formulas(rt: HostRuntime) -> Result<(), Fail> {
         let heap = rt.alloc();
-        printed(&rt, heap, &[node(0, 0, 0)], "T")?;
-        printed(&rt, heap, &[node(1, 31, 0)], "q31")?;
-        let (p, q, r) = (node(1, 0, 0), node(1, 1, 0), node(1, 2, 0));
+        printed(&rt, heap, &[Node::new(Truth, 0, 0)], "T")?;
+        printed(&rt, heap, &[Node::new(Question, 31, 0)], "q31")?;
+        let [p, q, r] = [0, 1, 2].map(|number| Node::new(Question, number, 0));
         printed(
             &rt,
             heap,
-            &[p, q, node(2, 1, 0), node(3, 0, 2), node(5, 3, 0)],
+            &[
+                p,
+                q,
+                Node::new(Not, 1, 0),
+                Node::new(And, 0, 2),
+                Node::new(EX, 3, 0),
+            ],
             "EX (q0&!q1)",
         )?;
         printed(
             &rt,
             heap,
-            &[p, q, r, node(2, 2, 0), node(3, 1, 3), node(11, 0, 4)],
+            &[
+                p,
+                q,
+                r,
+                Node::new(Not, 2, 0),
+                Node::new(And, 1, 3),
+                Node::new(EU, 0, 4),
+            ],
             "E[q0 U (q1&!q2)]",
         )?;
         printed(
             &rt,
             heap,
-            &[p, r, node(7, 1, 0), node(4, 0, 2), node(10, 3, 0)],
+            &[
+                p,
+                r,
+                Node::new(EF, 1, 0),
+                Node::new(Or, 0, 2),
+                Node::new(AG, 3, 0),
+            ],
             "AG (q0|EF q2)",
         )?;
         printed(
@@ -63,10 +83,10 @@ mod tests {
             &[
                 r,
                 q,
-                node(6, 0, 0),
-                node(8, 2, 0),
-                node(9, 1, 0),
-                node(12, 3, 4),
+                Node::new(AX, 0, 0),
+                Node::new(AF, 2, 0),
+                Node::new(EG, 1, 0),
+                Node::new(AU, 3, 4),
             ],
             "A[AF AX q2 U EG q1]",
         )?;
@@ -74,7 +94,7 @@ mod tests {
         printed(
             &rt,
             heap,
-            &[p, q, node(2, 0, 0), node(3, 2, 2)],
+            &[p, q, Node::new(Not, 0, 0), Node::new(And, 2, 2)],
             "(!q0&!q0)",
         )
     }
@@ -84,33 +104,39 @@ mod tests {
         Ok(print_formula(heap, nodes, questions)?.is_some())
     }
 
-    // Each node after the first is an operator on the node before it, or on that node twice.
-    fn chain(nodes: &mut [Node], code: u8, twice: bool) {
-        let mut before = 0u16;
-        for i in 1..nodes.len() {
-            nodes[i] = node(code, before, if twice { before } else { 0 });
-            before = before.wrapping_add(1);
+    // Each node after the first is made from the number of the node before it.
+    fn chain<F: Fn(u16) -> Node>(nodes: &mut [Node], next: F)
+        requires { (before : ℕ) → F.pre next before }
+    {
+        for (node, before) in nodes.iter_mut().skip(1).zip(0..u16::MAX) {
+            *node = next(before);
         }
     }
 
     #[test]
     fn limits(rt: HostRuntime) -> Result<(), Fail> {
         let heap = rt.alloc();
-        let mut deep = [node(0, 0, 0); 65];
-        chain(&mut deep, 2, false);
-        let mut wide = [node(1, 0, 0); 11];
-        chain(&mut wide, 3, true);
+        let truth = Node::new(Truth, 0, 0);
+        let mut deep = [truth; 65];
+        chain(&mut deep, |before| Node::new(Not, before, 0));
+        let mut wide = [Node::new(Question, 0, 0); 11];
+        chain(&mut wide, |before| Node::new(And, before, before));
+        let unknown = Node {
+            code: 13,
+            a: 0,
+            b: 0,
+        };
         assert!(rt; prints(heap, &deep[0..64], 1)?);
         assert!(rt; !prints(heap, &deep, 1)?);
         assert!(rt; prints(heap, &wide[0..10], 1)?);
         assert!(rt; !prints(heap, &wide, 1)?);
         assert!(rt; !prints(heap, &[], 1)?);
-        assert!(rt; !prints(heap, &[node(0, 0, 0)], 0)?);
-        assert!(rt; !prints(heap, &[node(0, 0, 0)], 33)?);
-        assert!(rt; !prints(heap, &[node(1, 1, 0)], 1)?);
-        assert!(rt; !prints(heap, &[node(13, 0, 0)], 1)?);
-        assert!(rt; !prints(heap, &[node(0, 0, 0), node(2, 1, 0)], 1)?);
-        assert!(rt; !prints(heap, &[node(2, 1, 0), node(0, 0, 0)], 1)?);
+        assert!(rt; !prints(heap, &[truth], 0)?);
+        assert!(rt; !prints(heap, &[truth], 33)?);
+        assert!(rt; !prints(heap, &[Node::new(Question, 1, 0)], 1)?);
+        assert!(rt; !prints(heap, &[unknown], 1)?);
+        assert!(rt; !prints(heap, &[truth, Node::new(Not, 1, 0)], 1)?);
+        assert!(rt; !prints(heap, &[Node::new(Not, 1, 0), truth], 1)?);
         Ok(())
     }
 }

@@ -1,34 +1,54 @@
--- How long the parts of a report's text are.
-use Rattle.std.proofs.Common.{◌≡◌, ℕ, ◌+◌, ◌/◌, ◌%◌, ◌^◌, ◌<◌, ◌≤◌, List, [], ◌∷◌, ◌++◌, length, codes, decimal, ap, ◌∙◌, arith}
-use Rattle.std.proofs.lemmas.Fmt.{decimal_digit, decimal_step, length-decimal-le}
+-- How long the parts of a report's text can be.
+use Rattle.std.proofs.Common.{ℕ, zero, suc, ◌+◌, ◌*◌, ◌/◌, ◌%◌, ◌^◌, ◌<◌, ◌≤◌, Bool, true, false, List, [], ◌∷◌, ◌++◌, length, codes, decimal, arith}
 use Rattle.std.proofs.lemmas.List.{length-append}
+use Rattle.std.specs.Prelude.{if◌then◌else◌, ◌==◌}
+use Rattle.std.specs.Fmt.{digits, digits_onto, digit_glyph}
 use Rattle.kripke.specs.declared.node.Node.{Node}
-use Rattle.report.specs.Text.{field, node_line}
+use Rattle.report.specs.Text.{field, node_line, node_lines, node_count, report_text}
+use Rattle.report.specs.declared.report.Report.{Report}
+use Rattle.report.specs.declared.report.Report.TheVariants.{Alike, Different}
 
-pub one_long : (n : ℕ) → n < 10 → length (decimal n) ≡ 1
-one_long n h = ap (λ z. length z) (decimal_digit n h)
+length-either : (t : Bool) (a b : List ℕ) (m : ℕ) → length a ≤ m → length b ≤ m → length (if t then a else b) ≤ m
+length-either true a b m p q = p
+length-either false a b m p q = q
 
-pub one_longer : (n : ℕ) → 10 ≤ n → n < 2 ^ 16 → length (decimal n) ≡ length (decimal (n / 10)) + 1
-one_longer n h k = ap (λ z. length z) (decimal_step n h (omega arith)) ∙ length-append (decimal (n / 10)) ((48 + n % 10) ∷ [])
+length-digits_onto : (k base : ℕ) (upper : Bool) (n : ℕ) (acc : List ℕ) → length (digits_onto k base upper n acc) ≤ k + length acc
+length-digits_onto zero base upper n acc = omega arith
+length-digits_onto (suc k) base upper n acc =
+    let more = digit_glyph upper (n % base) ∷ acc in
+    length-either (n / base == 0) more (digits_onto k base upper (n / base) more) (suc k + length acc) (omega arith)
+    (omega (arith, length-digits_onto k base upper (n / base) more))
 
-pub at_most_five : (n : ℕ) → n < 2 ^ 16 → length (decimal n) ≤ 5
-at_most_five n h = length-decimal-le 5 n (omega arith) (omega arith) (omega arith)
+length-decimal : (n : ℕ) → length (decimal n) ≤ 64
+unfolding digits
+length-decimal n = length-digits_onto 64 10 false n []
 
-length-field : (n b : ℕ) → length (field n b) ≡ length (decimal n) + 1
-length-field n b = length-append (decimal n) (b ∷ [])
+length-field : (n b : ℕ) → length (field n b) ≤ 65
+length-field n b = omega (arith, length-append (decimal n) (b ∷ []), length-decimal n)
 
-pub length_line : (i : ℕ) (n : Node) → length (node_line i n) ≡ length (decimal i) + length (decimal n.code) + length (decimal n.a) + length (decimal n.b) + 4
-length_line i n =
+length-line : (i : ℕ) (n : Node) → length (node_line i n) ≤ 260
+length-line i n =
     let p = field i 32 in
     let q = field n.code 32 in
     let r = field n.a 32 in
     let s = field n.b 10 in
     omega (arith, length-append p (q ++ (r ++ s)), length-append q (r ++ s), length-append r s, length-field i 32, length-field n.code 32, length-field n.a 32, length-field n.b 10)
 
-pub length_alike : (r : ℕ) → length (codes "alike " ++ field r 10) ≡ length (decimal r) + 7
-length_alike r = omega (arith, length-append (codes "alike ") (field r 10), length-field r 10)
+length-lines : (i : ℕ) (ns : List Node) → length (node_lines i ns) ≤ 260 * length ns
+length-lines i [] = omega arith
+length-lines i (n ∷ ns) = omega (arith, length-append (node_line i n) (node_lines (suc i) ns), length-line i n, length-lines (suc i) ns)
 
-pub length_different : (r k : ℕ) (ls : List ℕ)
-    → length (codes "differ " ++ (field r 32 ++ (field k 10 ++ ls))) ≡ length (decimal r) + length (decimal k) + 9 + length ls
-length_different r k ls =
-    omega (arith, length-append (codes "differ ") (field r 32 ++ (field k 10 ++ ls)), length-append (field r 32) (field k 10 ++ ls), length-append (field k 10) ls, length-field r 32, length-field k 10)
+pub length-report : (r : Report) → node_count r ≤ 2045 → length (report_text r) < 2 ^ 64
+length-report (Alike k) h = omega (arith, length-append (codes "alike ") (field k 10), length-field k 10)
+length-report (Different k ns) h =
+    let ls = node_lines 0 ns.now in
+    omega (
+      arith,
+      length-append (codes "differ ") (field k 32 ++ (field (length ns.now) 10 ++ ls)),
+      length-append (field k 32) (field (length ns.now) 10 ++ ls),
+      length-append (field (length ns.now) 10) ls,
+      length-field k 32,
+      length-field (length ns.now) 10,
+      length-lines 0 ns.now,
+      h,
+    )

@@ -1,4 +1,4 @@
 pub mod Putting
-pub mod Lengths
 pub mod Lines
 pub mod Refused
+pub mod Lengths

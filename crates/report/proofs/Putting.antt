@@ -1,58 +1,49 @@
 -- Texts that are put one after another.
-use Rattle.std.proofs.Common.{◌≡◌, ℕ, suc, ◌+◌, ◌≤◌, List, [], ◌∷◌, ◌++◌, length, take, drop, set, sym, refl, ap, ◌∙◌, append_assoc, arith}
-use Rattle.std.proofs.lemmas.List.{length-set, length-append, set_at, append-nil, take_all, take-append-le, drop_all}
-use Rattle.report.specs.Puts.{put, Puts, Written}
+use Rattle.std.proofs.Common.{◌≡◌, ℕ, ◌+◌, ◌≤◌, List, ◌++◌, length, take, drop, sym, ap, ◌∙◌, append_assoc, subst, arith}
+use Rattle.std.proofs.lemmas.List.{length-append, length-take, length-drop}
+use Rattle.std.proofs.lemmas.Slice.{drop-append-drop}
+use Rattle.std.proofs.Math.Seq.{take-append_seam}
+use Rattle.report.specs.declared.cursor.Cursor.{Cursor}
+use Rattle.report.specs.Puts.{put, Countable, Puts}
 
-length-put : (at : ℕ) (bs out : List ℕ) → length (put at bs out) ≡ length out
-length-put at [] out = refl
-length-put at (b ∷ bs) out = length-put (suc at) bs (set out at b) ∙ length-set out at b
+pub length-put : (at : ℕ) (text out : List ℕ) → at + length text ≤ length out → length (put at text out) ≡ length out
+length-put at text out h =
+    let r = drop (at + length text) out in
+    omega (arith, length-append (take at out) (text ++ r), length-append text r, length-take at out, length-drop (at + length text) out, h)
 
-put-append : (at : ℕ) (xs ys out : List ℕ) → put at (xs ++ ys) out ≡ put (at + length xs) ys (put at xs out)
-put-append at [] ys out = let e : at ≡ at + 0 = omega arith in ap (λ (i : ℕ). put i ys out) e
-put-append at (x ∷ xs) ys out =
-    let e : suc at + length xs ≡ at + suc (length xs) = omega arith in
-    put-append (suc at) xs ys (set out at x) ∙ ap (λ (i : ℕ). put i ys (put (suc at) xs (set out at x))) e
+-- The front of what is put, up to the end of the text, and the rest.
+front : (at : ℕ) (xs out : List ℕ) → at + length xs ≤ length out → length (take at out ++ xs) ≡ at + length xs
+front at xs out h = omega (arith, length-append (take at out) xs, length-take at out, h)
 
-pub length_puts : {at : ℕ} {xs a : List ℕ} {m : ℕ} {b : List ℕ} → Puts at xs a m b → length b ≡ length a
-length_puts {at} {xs} {a} p = ap (λ z. length z) p.holds ∙ length-put at xs a
+put-append : (at : ℕ) (xs ys out : List ℕ) → at + length xs ≤ length out → put (at + length xs) ys (put at xs out) ≡ put at (xs ++ ys) out
+put-append at xs ys out h =
+    let n = at + length xs in
+    let p : List ℕ = take at out ++ xs in
+    let l : length p ≡ n = front at xs out h in
+    let e : put at xs out ≡ p ++ drop n out = sym (append_assoc (take at out) xs (drop n out)) in
+    let t : take n (put at xs out) ≡ p = ap (take n) e ∙ ap (λ k. take k (p ++ drop n out)) (sym l) ∙ take-append_seam p (drop n out) in
+    let d : drop (n + length ys) (put at xs out) ≡ drop (n + length ys) out = ap (drop (n + length ys)) e ∙ drop-append-drop n out p (n + length ys) (omega arith) l in
+    let m : n + length ys ≡ at + length (xs ++ ys) = omega (arith, length-append xs ys) in
+    let r = drop (at + length (xs ++ ys)) out in
+    rw (t, d, m) (append_assoc (take at out) xs (ys ++ r) ∙ ap (λ z. take at out ++ z) (sym (append_assoc xs ys r)))
 
-pub then : (at : ℕ) (xs ys : List ℕ) {a b c : List ℕ} {m n : ℕ} → Puts at xs a m b → Puts m ys b n c → Puts at (xs ++ ys) a n c
-then at xs ys {a} {b} {c} {m} {n} p q = record {
+pub then : (xs ys : List ℕ) {a b c : Cursor} → Puts xs a b → Puts ys b c → Puts (xs ++ ys) a c
+then xs ys {a} {b} {c} p q = record {
+  same = q.same ∙ p.same;
   ends = omega (arith, p.ends, q.ends, length-append xs ys);
-  holds = q.holds ∙ ap (λ z. put m ys z) p.holds ∙ ap (λ (i : ℕ). put i ys (put at xs a)) p.ends ∙ sym (put-append at xs ys a);
+  long = q.long ∙ p.long;
+  holds = λ h.
+      let fits : a.at + length xs ≤ length a.out.now = omega (arith, h, p.ends, q.ends, p.long, q.long) in
+      q.holds h ∙ ap (put b.at ys) (p.holds (omega (arith, fits, p.ends, p.long))) ∙ ap (λ k. put k ys (put a.at xs a.out.now)) p.ends
+      ∙ put-append a.at xs ys a.out.now fits;
 }
 
-pub puts_same : {at : ℕ} {xs ys a b : List ℕ} {m : ℕ} → xs ≡ ys → Puts at xs a m b → Puts at ys a m b
-puts_same {at} {xs} {ys} {a} {b} {m} e p = record { ends = p.ends ∙ ap (λ z. at + length z) e; holds = p.holds ∙ ap (λ z. put at z a) e }
+-- Where the end of both texts can be counted, that of the first can, and behind it that of the second.
+pub first_countable : (a : Cursor) (xs ys : List ℕ) → Countable (xs ++ ys) a → Countable xs a
+first_countable a xs ys h = omega (arith, length-append xs ys, h)
 
--- Where both texts fit, the first does, and after it the second does.
-pub first_fits : (at : ℕ) {n : ℕ} (xs ys : List ℕ) → at + length (xs ++ ys) ≤ n → at + length xs ≤ n
-first_fits at {n} xs ys h = omega (arith, length-append xs ys, h)
+pub rest_countable : (xs ys : List ℕ) {a b : Cursor} → Countable (xs ++ ys) a → Puts xs a b → Countable ys b
+rest_countable xs ys h p = omega (arith, length-append xs ys, h, p.ends)
 
-pub rest_fits : {at m : ℕ} {a b : List ℕ} (xs ys : List ℕ) → at + length (xs ++ ys) ≤ length a → Puts at xs a m b → m + length ys ≤ length b
-rest_fits {at} {m} {a} {b} xs ys h p = omega (arith, length-append xs ys, h, p.ends, length_puts p)
-
--- What is put from the start on is the front, and the rest stays.
-put_front : (ps xs out : List ℕ) → length xs ≤ length out → put (length ps) xs (ps ++ out) ≡ ps ++ (xs ++ drop (length xs) out)
-put_front ps [] out h = refl
-put_front ps (x ∷ xs) [] h = absurd (omega arith)
-put_front ps (x ∷ xs) (y ∷ out) h =
-    let qs : List ℕ = ps ++ (x ∷ []) in
-    let e : suc (length ps) ≡ length qs = omega (arith, length-append ps (x ∷ [])) in
-    let d : set (ps ++ (y ∷ out)) (length ps) x ≡ qs ++ out = set_at ps y out x (length ps) refl ∙ sym (append_assoc ps (x ∷ []) out) in
-    ap (λ z. put (suc (length ps)) xs z) d ∙ ap (λ (i : ℕ). put i xs (qs ++ out)) e ∙ put_front qs xs out (omega arith)
-    ∙ append_assoc ps (x ∷ []) (xs ++ drop (length xs) out)
-
-pub written : (text : List ℕ) {a b : List ℕ} {m : ℕ} → length text ≤ length a → Puts 0 text a m b → Written text a m b
-written text {a} {b} {m} h p =
-    let e : m ≡ length text = omega (arith, p.ends) in
-    record { long = e; holds = p.holds ∙ put_front [] text a h ∙ ap (λ n. text ++ drop n a) (sym e) }
-
--- A text that fills all bytes of a vector.
-pub filled : (text items : List ℕ) {a b : List ℕ} {m len : ℕ} → length a ≡ length text → len ≡ length text → Puts 0 text a m b → take len (b ++ drop (length b) items) ≡ text
-filled text items {a} {b} {m} {len} e l p =
-    let w = written text {m = m} (omega (arith, e)) p in
-    let d : drop m a ≡ [] = drop_all m a (omega (arith, e, w.long)) in
-    let is : b ≡ text = w.holds ∙ ap (λ z. text ++ z) d ∙ append-nil text in
-    let k : length b ≡ length text = ap (λ z. length z) is in
-    take-append-le len b (drop (length b) items) (omega (arith, l, k)) ∙ take_all len b (omega (arith, l, k)) ∙ is
+pub puts_same : {xs ys : List ℕ} {a b : Cursor} → xs ≡ ys → Puts xs a b → Puts ys a b
+puts_same {a = a} {b = b} e p = subst (λ (z : List ℕ). Puts z a b) e p

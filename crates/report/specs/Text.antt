@@ -1,8 +1,10 @@
 -- The text of a report, and when a report is refused.
-use Rattle.std.specs.Prelude.{◌≡◌, ℕ, suc, ◌<◌, ◌≤◌, ◌⊎◌, List, [], ◌∷◌, ◌++◌, length, Some, None, codes, decimal, Option}
+use Rattle.std.specs.Prelude.{◌≡◌, ℕ, suc, ◌<◌, ◌≤◌, ◌⊎◌, List, [], ◌∷◌, ◌++◌, length, Ok, Err, codes, decimal, Result}
 use Rattle.kripke.specs.declared.node.Node.{Node}
 use Rattle.kripke.specs.declared.refusal.Cause.{Cause}
 use Rattle.kripke.specs.declared.refusal.Cause.TheVariants.{ReportSize}
+use Rattle.kripke.specs.declared.refusal.Layer.TheVariants as layer
+use Rattle.kripke.specs.declared.refusal.Refusal.{Refusal}
 use Rattle.report.specs.declared.report.Report.{Report}
 use Rattle.report.specs.declared.report.Report.TheVariants.{Alike, Different}
 
@@ -52,7 +54,7 @@ Exceeds report room = (2045 < node_count report) ⊎ (room < length (report_text
 pub data Breach (report : Report) (room : ℕ) : Cause → ℕ → Type 0 where
   size : Exceeds report room → Breach report room ReportSize 0
 
--- The length of a report's text, if it has few enough nodes.
-abbrev pub Measured : Report → Option ℕ → Type 0
-Measured report None = 2045 < node_count report
-Measured report (Some n) = (node_count report ≤ 2045) × (n ≡ length (report_text report))
+-- The length of a report's text; the refusal of a report with too many nodes.
+abbrev pub Measured : Report → Result ℕ Refusal → Type 0
+Measured report (Ok n) = (node_count report ≤ 2045) × (n ≡ length (report_text report))
+Measured report (Err e) = (2045 < node_count report) × (e ≡ record { cause = ReportSize; layer = layer.Report; place = 0 })

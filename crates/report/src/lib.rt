@@ -2,5 +2,6 @@
 
 #![tactic(auto)]
 
+mod cursor;
 pub mod report;
 pub mod write;

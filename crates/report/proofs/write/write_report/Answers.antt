@@ -1,20 +1,15 @@
-use Rattle.std.proofs.Common.{refl, inl, inr, arith}
-use Rattle.report.proofs.Putting.{written}
-use Rattle.report.proofs.Refused.{refused, accepted}
+use Rattle.std.proofs.Common.{refl, inl, inr, arith, rules}
+use Rattle.std.proofs.lemmas.Result.{err_from_is_err_and}
+use Rattle.report.proofs.Refused.{refused}
 use Rattle.report.proofs.write.write_report.Goals as goal
 
-pub write_text-requires : goal.write_text-requires
-write_text-requires c = let (few, long) = c.in-Some.ensures in record { few = few; held = omega (arith, long, c.if-length-out.false) }
+pub returns-in_err-text_length : goal.returns-in_err-text_length
+returns-in_err-text_length c =
+    let p = err_from_is_err_and c.from_residual.result c.from_residual.ensures.1 in
+    let (many, is) = c.in_err-text_length.ensures in
+    rw (p.1, p.2) (refused _ _ _ is (inl many), refl)
 
-pub returns-in_default : goal.returns-in_default
-returns-in_default c = (refused _ _ _ c.refusal.ensures (inl c.in_default.ensures), refl)
-
-pub returns-then-length-out : goal.returns-then-length-out
-returns-then-length-out c =
-    let (few, long) = c.in-Some.ensures in
-    (refused _ _ _ c.refusal-then-length-out.ensures (inr (omega (arith, long, c.if-length-out.true))), refl)
-
-pub returns : goal.returns
-returns c =
-    let (few, long) = c.in-Some.ensures in
-    (accepted _ _ (record { few = few; held = omega (arith, long, c.if-length-out.false) }), written _ (omega (arith, long, c.if-length-out.false)) c.write_text.ensures)
+pub returns-then-branch-out : goal.returns-then-branch-out
+returns-then-branch-out c =
+    let (few, long) = c.in_ok-text_length.ensures in
+    (refused _ _ _ (search rules) (inr (omega (arith, long, c.if-branch-out.true))), refl)
