@@ -1,4 +1,3 @@
-pub mod Fills
 pub mod Readings
 pub mod Somes
 pub mod Rowed
@@ -8,7 +7,6 @@ pub mod Grown
 pub mod Step
 pub mod Part
 pub mod Scan
-pub mod Divide
 pub mod Begins
 pub mod Rounding
 pub mod Staging

@@ -1,11 +1,12 @@
-ghost use Rattle.std.specs.Prelude.{◌≡◌, ◌≤◌, vec_capacity};
+ghost use Rattle.std.specs.Prelude.{◌≡◌, ◌+◌, ◌*◌, ◌≤◌, length};
 ghost use Rattle.kripke.specs.Classes.{Led, Low};
 ghost use Rattle.refine.specs.Classes.{Here, leaders};
 ghost use Rattle.refine.specs.Growth.{Orderly};
 
-use kripke::node::Node;
+use crate::nodes::Nodes;
 
 // Numbered states in classes, each with the node of a formula. A class goes by its least state.
+// The tables are arrays, of which the first `states` places count: a round works from a copy of them, and must not ask for memory.
 #[derive(Drop)]
 pub struct Partition {
     pub states: u16,
@@ -13,14 +14,15 @@ pub struct Partition {
     // The class of each state, and the node of each class.
     pub class: [u16; 512],
     pub node: [u16; 512],
-    pub nodes: Vec<Node>,
+    pub nodes: Nodes,
     // How many classes there are.
     pub count: u16,
     ghost few: { states ≤ 512 },
-    ghost room: { 2048 ≤ vec_capacity nodes },
+    // At most four nodes for each class but the first, and one.
+    ghost spare: { length nodes.list.items + 3 ≤ 4 * count },
     ghost low: { Low states class },
     ghost led: { Led states class },
-    ghost here: { Here states class node nodes.items },
-    ghost orderly: { Orderly questions nodes.items },
+    ghost here: { Here states class node nodes.list.items },
+    ghost orderly: { Orderly questions nodes.list.items },
     ghost counted: { count ≡ leaders class states },
 }

@@ -53,10 +53,9 @@ impl Refinement {
     pub fn round(&mut self) -> usize
         ensures { Advanced self.old self.new result }
     {
-        if self.rests {
-            return self.count();
+        if !self.rests {
+            self.advance();
         }
-        self.advance();
         self.count()
     }
 }

@@ -36,7 +36,6 @@ invariant_of-self c =
     record {
       long = d.keeps.states ∙ r.long;
       asks = d.keeps.questions ∙ r.asks;
-      few = c.round-self.ensures.few;
       told = exact_told (both a b) q (d.exact (told_exact (both a b) p r.told));
       shallow = subst (λ (n : ℕ). Shallow n q) k1 (d.shallow k r.shallow);
       numbered = subst (λ (n : ℕ). Numbered a b n q.class) k1 (next_numbered a b la lb k p q r.long r.numbered d);
