@@ -16,7 +16,7 @@ pub record Started (p q : Partition) (test : Node) (x : ℕ) : Type 0 where
   pub class : q.class ≡ p.class
   pub node : q.node ≡ p.node
   pub count : q.count ≡ p.count
-  pub begun : Begun (vec_items p.nodes) (vec_items q.nodes) test x
+  pub begun : Begun (vec_items p.nodes.list) (vec_items q.nodes.list) test x
 
 module _ (p q : Partition) (test : Node) (x : ℕ) (st : Started p q test x) where
   start_keeps : Keeps p q
@@ -27,8 +27,8 @@ module _ (p q : Partition) (test : Node) (x : ℕ) (st : Started p q test x) whe
 
   same_formula : (t : ℕ) → t < p.states → class_formula q t ≡ class_formula p t
   same_formula t h =
-      ap (λ (l : List ℕ). formula (vec_items q.nodes) (get_or l (class_of q t) 0)) st.node
-      ∙ ap (λ (c : ℕ). formula (vec_items q.nodes) (get_or p.node c 0)) (same_class t)
+      ap (λ (l : List ℕ). formula (vec_items q.nodes.list) (get_or l (class_of q t) 0)) st.node
+      ∙ ap (λ (c : ℕ). formula (vec_items q.nodes.list) (get_or p.node c 0)) (same_class t)
       ∙ st.begun.extends.same (get_or p.node (class_of p t) 0) (p.here t h)
 
   start_exact : (v : Formula → ℕ → Bool) → Exact v p → Exact v q
@@ -43,10 +43,10 @@ module _ (p q : Partition) (test : Node) (x : ℕ) (st : Started p q test x) whe
       subst (λ (f : Formula). nesting f ≤ d) (sym (same_formula t l)) (h t l)
 
   start_stands : (v : Formula → ℕ → Bool) → Boolean v → (row : List Bool)
-      → ((t : ℕ) → t < p.states → v (made (formulas (vec_items p.nodes)) test) t ≡ at row t) → Stands v q x row
+      → ((t : ℕ) → t < p.states → v (made (formulas (vec_items p.nodes.list)) test) t ≡ at row t) → Stands v q x row
   start_stands v w row h = record {
     yes = λ t l. ap (λ (f : Formula). v f t) st.begun.yes ∙ h t (omega (arith, st.states, l));
-    no = λ t l. ap (λ (f : Formula). v f t) st.begun.no ∙ w.negates (made (formulas (vec_items p.nodes)) test) t ∙ ap not (h t (omega (arith, st.states, l)));
+    no = λ t l. ap (λ (f : Formula). v f t) st.begun.no ∙ w.negates (made (formulas (vec_items p.nodes.list)) test) t ∙ ap not (h t (omega (arith, st.states, l)));
   }
 
   pub start_odd : (s : ℕ) (row : List Bool) → Odd p s row → Odd q s row

@@ -61,9 +61,9 @@ pub record Cut : Type 0 where
   pub new : List ℕ
   pub is : (t : ℕ) → t < n → get_or new t 0 ≡ moved cl row (get_or cl s 0) s t
 
-abbrev pub cut : (p : Partition) (s x : ℕ) (row : List Bool) → Odd p s row → suc x < length (vec_items p.nodes) → p.states ≤ length p.node
+abbrev pub cut : (p : Partition) (s x : ℕ) (row : List Bool) → Odd p s row → suc x < length (vec_items p.nodes.list) → p.states ≤ length p.node
     → (stays leaves : ℕ) → stays ≡ cond (at row s) (x + 1) x → leaves ≡ cond (at row s) x (x + 1)
-    → (m1 ms : List Node) (stay leave : ℕ) → Conjoined (vec_items p.nodes) m1 (get_or p.node (get_or p.class s 0) 0) stays stay
+    → (m1 ms : List Node) (stay leave : ℕ) → Conjoined (vec_items p.nodes.list) m1 (get_or p.node (get_or p.class s 0) 0) stays stay
     → Conjoined m1 ms (get_or p.node (get_or p.class s 0) 0) leaves leave
     → (new : List ℕ) → ((t : ℕ) → t < p.states → get_or new t 0 ≡ moved p.class row (get_or p.class s 0) s t) → Cut
 cut p s x row o inside fit stays leaves stays_is leaves_is m1 ms stay leave j1 j2 new is =
@@ -72,7 +72,7 @@ cut p s x row o inside fit stays leaves stays_is leaves_is m1 ms stay leave j1 j
       n = p.states;
       cl = p.class;
       nd = p.node;
-      ns = vec_items p.nodes;
+      ns = vec_items p.nodes.list;
       low = p.low;
       led = p.led;
       here = p.here;

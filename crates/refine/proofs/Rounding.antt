@@ -20,14 +20,14 @@ use Rattle.refine.proofs.Scan.{keeps_refl, keeps_trans}
 use Rattle.refine.proofs.Begins.{test_boolean}
 
 module _ (u : Kripke) (p q : Partition) (i : ℕ) (h : Refining u p q i) (c name : ℕ) (cn : c < p.states) (lead : class_of p c ≡ c) (nm : name ≡ get_or p.node c 0) where
-  here : name < length (vec_items p.nodes)
-  here = rw nm (subst (λ (v : ℕ). get_or p.node v 0 < length (vec_items p.nodes)) lead (p.here c cn))
+  here : name < length (vec_items p.nodes.list)
+  here = rw nm (subst (λ (v : ℕ). get_or p.node v 0 < length (vec_items p.nodes.list)) lead (p.here c cn))
 
   same : node_formula q name ≡ class_formula p c
   same = h.keeps.extends.same name here ∙ ap (λ (j : ℕ). node_formula p j) (nm ∙ ap (λ (v : ℕ). get_or p.node v 0) (sym lead))
 
-  pub ex_fits : T (next_node q.questions (length (vec_items q.nodes)) (record { code = 5; a = name; b = 0 }))
-  ex_fits = T_and _ _ (lt_T name (length (vec_items q.nodes)) (omega (arith, here, h.keeps.extends.longer))) tt
+  pub ex_fits : T (next_node q.questions (length (vec_items q.nodes.list)) (record { code = 5; a = name; b = 0 }))
+  ex_fits = T_and _ _ (lt_T name (length (vec_items q.nodes.list)) (omega (arith, here, h.keeps.extends.longer))) tt
 
   ex_shallow : (d : ℕ) → Shallow d p → nesting (EX (node_formula q name)) ≤ suc d
   ex_shallow d old = subst (λ (f : Formula). suc (nesting f) ≤ suc d) (sym same) (omega (arith, old c cn))

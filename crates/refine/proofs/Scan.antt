@@ -32,31 +32,31 @@ odd_fewer p s row o =
       sum_less (λ i. bit (eqb (get_or p.class i 0) i)) (λ i. 1) p.states (λ i h. bit_le (eqb (get_or p.class i 0) i)) s o.state l,
     )
 
-pub room_left : (p : Partition) (s : ℕ) (row : List Bool) → Odd p s row → Few p → length (vec_items p.nodes) + 4 ≤ 2048
+pub room_left : (p : Partition) (s : ℕ) (row : List Bool) → Odd p s row → Few p → length (vec_items p.nodes.list) + 4 ≤ 2048
 room_left p s row o f = omega (arith, odd_fewer p s row o, f, p.few, p.counted)
 
 pub keeps_refl : (p : Partition) → Keeps p p
-keeps_refl p = record { states = refl; questions = refl; extends = extends_refl (vec_items p.nodes); more = omega arith; still = λ h. refl }
+keeps_refl p = record { states = refl; questions = refl; extends = extends_refl (vec_items p.nodes.list); more = omega arith; still = λ h. refl }
 
 pub keeps_trans : (p q r : Partition) → Keeps p q → Keeps q r → Keeps p r
 keeps_trans p q r h k =
     record {
       states = k.states ∙ h.states;
       questions = k.questions ∙ h.questions;
-      extends = extends_trans (vec_items p.nodes) (vec_items q.nodes) (vec_items r.nodes) h.extends k.extends;
+      extends = extends_trans (vec_items p.nodes.list) (vec_items q.nodes.list) (vec_items r.nodes.list) h.extends k.extends;
       more = omega (arith, h.more, k.more);
       still = λ l. k.still (omega (arith, l, h.more)) ∙ h.still (omega (arith, l, k.more));
     }
 
 -- A test stands in a table that has grown, nested no deeper.
-pub stands_on : (v : Formula → ℕ → Bool) (p q : Partition) (x : ℕ) (row : List Bool) → Keeps p q → suc x < length (vec_items p.nodes) → Stands v p x row → Stands v q x row
+pub stands_on : (v : Formula → ℕ → Bool) (p q : Partition) (x : ℕ) (row : List Bool) → Keeps p q → suc x < length (vec_items p.nodes.list) → Stands v p x row → Stands v q x row
 stands_on v p q x row k l st =
     record {
       yes = λ t h. ap (λ (f : Formula). v f t) (k.extends.same x (omega arith)) ∙ st.yes t (omega (arith, h, k.states));
       no = λ t h. ap (λ (f : Formula). v f t) (k.extends.same (suc x) l) ∙ st.no t (omega (arith, h, k.states));
     }
 
-pub nests_on : (d : ℕ) (p q : Partition) (x i : ℕ) → Keeps p q → i < length (vec_items p.nodes) → nesting (node_formula p i) ≤ d → nesting (node_formula q i) ≤ d
+pub nests_on : (d : ℕ) (p q : Partition) (x i : ℕ) → Keeps p q → i < length (vec_items p.nodes.list) → nesting (node_formula p i) ≤ d → nesting (node_formula q i) ≤ d
 nests_on d p q x i k l h = subst (λ (f : Formula). nesting f ≤ d) (sym (k.extends.same i l)) h
 
 pub scanned_start : (p : Partition) (x : ℕ) (row : List Bool) (i : ℕ) → ((t : ℕ) → t < i → at row (class_of p t) ≡ at row t) → Scanned p p x row i
@@ -77,7 +77,7 @@ scanned_skip p q x row i h e =
       ];
     }
 
-module _ (p q r : Partition) (x : ℕ) (row : List Bool) (i : ℕ) (inside : suc x < length (vec_items p.nodes))
+module _ (p q r : Partition) (x : ℕ) (row : List Bool) (i : ℕ) (inside : suc x < length (vec_items p.nodes.list))
     (h : Scanned p q x row i) (o : Odd q i row) (d : Parted q r x i row) where
   abbrev n : ℕ
   n = q.states
@@ -124,7 +124,7 @@ module _ (p q r : Partition) (x : ℕ) (row : List Bool) (i : ℕ) (inside : suc
         shallow = λ e a b old. d.shallow e (nests_on e p q x x h.keeps (omega (arith, inside)) a) (nests_on e p q x (suc x) h.keeps inside b) (h.shallow e a b old);
       }
 
-pub scanned_trans : (p q r : Partition) (x : ℕ) (row : List Bool) (i j : ℕ) → suc x < length (vec_items p.nodes) → Scanned p q x row i → Scanned q r x row j → Scanned p r x row j
+pub scanned_trans : (p q r : Partition) (x : ℕ) (row : List Bool) (i j : ℕ) → suc x < length (vec_items p.nodes.list) → Scanned p q x row i → Scanned q r x row j → Scanned p r x row j
 scanned_trans p q r x row i j inside h k =
     record {
       keeps = keeps_trans p q r h.keeps k.keeps;

@@ -13,7 +13,7 @@ at row s = slice_index_or row s false
 
 -- The formula of a node; the class number of a state; the formula of a state's class.
 abbrev pub node_formula : Partition → ℕ → Formula
-node_formula p i = formula (vec_items p.nodes) i
+node_formula p i = formula (vec_items p.nodes.list) i
 
 abbrev pub class_of : Partition → ℕ → ℕ
 class_of p s = slice_index p.class s
@@ -31,7 +31,7 @@ Shallow d p = (t : ℕ) → t < p.states → nesting (class_formula p t) ≤ d
 
 -- At most 1 + 4 (classes - 1) nodes.
 abbrev pub Few : Partition → Type 0
-Few p = length (vec_items p.nodes) + 3 ≤ 4 * p.count
+Few p = length (vec_items p.nodes.list) + 3 ≤ 4 * p.count
 
 -- The number of t once the states of class c that agree with s on the row have the number s.
 abbrev pub moved : List ℕ → List Bool → ℕ → ℕ → ℕ → ℕ
@@ -52,14 +52,14 @@ pub record Odd (p : Partition) (s : ℕ) (row : List Bool) : Type 0 where
 pub record Keeps (p q : Partition) : Type 0 where
   pub states : q.states ≡ p.states
   pub questions : q.questions ≡ p.questions
-  pub extends : Extends (vec_items p.nodes) (vec_items q.nodes)
+  pub extends : Extends (vec_items p.nodes.list) (vec_items q.nodes.list)
   pub more : p.count ≤ q.count
   pub still : q.count ≤ p.count → q.class ≡ p.class
 
 -- The class of s was parted by the row: its members that agree with s have the number s.
 pub record Parted (p q : Partition) (x s : ℕ) (row : List Bool) : Type 0 where
   pub keeps : Keeps p q
-  pub nodes : length (vec_items q.nodes) ≤ length (vec_items p.nodes) + 2
+  pub nodes : length (vec_items q.nodes.list) ≤ length (vec_items p.nodes.list) + 2
   pub count : q.count ≡ suc p.count
   pub class : (t : ℕ) → t < p.states → class_of q t ≡ moved p.class row (class_of p s) s t
   pub exact : (v : Formula → ℕ → Bool) → Boolean v → Stands v p x row → Exact v p → Exact v q
@@ -78,5 +78,5 @@ pub record Scanned (p q : Partition) (x : ℕ) (row : List Bool) (i : ℕ) : Typ
 pub record Divided (p q : Partition) (test : Node) (row : List Bool) : Type 0 where
   pub keeps : Keeps p q
   pub classes : (s t : ℕ) → s < p.states → t < p.states → Alike q.class s t ↔ (Alike p.class s t × (at row s ≡ at row t))
-  pub exact : (v : Formula → ℕ → Bool) → Boolean v → ((t : ℕ) → t < p.states → v (made (formulas (vec_items p.nodes)) test) t ≡ at row t) → Exact v p → Exact v q
-  pub shallow : (d : ℕ) → nesting (made (formulas (vec_items p.nodes)) test) ≤ d → Shallow d p → Shallow d q
+  pub exact : (v : Formula → ℕ → Bool) → Boolean v → ((t : ℕ) → t < p.states → v (made (formulas (vec_items p.nodes.list)) test) t ≡ at row t) → Exact v p → Exact v q
+  pub shallow : (d : ℕ) → nesting (made (formulas (vec_items p.nodes.list)) test) ≤ d → Shallow d p → Shallow d q

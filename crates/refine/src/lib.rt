@@ -4,6 +4,7 @@
 
 mod asking;
 mod growth;
+pub mod nodes;
 pub mod pair;
 pub mod partition;
 mod reading;

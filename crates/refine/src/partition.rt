@@ -1,9 +1,9 @@
-ghost use Rattle.std.specs.Prelude.{◌≡◌, ◌≤◌, vec_capacity};
+ghost use Rattle.std.specs.Prelude.{◌≡◌, ◌≤◌};
 ghost use Rattle.kripke.specs.Classes.{Led, Low};
 ghost use Rattle.refine.specs.Classes.{Here, leaders};
 ghost use Rattle.refine.specs.Growth.{Orderly};
 
-use kripke::node::Node;
+use crate::nodes::Nodes;
 
 // Numbered states in classes, each with the node of a formula. A class goes by its least state.
 #[derive(Drop)]
@@ -13,14 +13,13 @@ pub struct Partition {
     // The class of each state, and the node of each class.
     pub class: [u16; 512],
     pub node: [u16; 512],
-    pub nodes: Vec<Node>,
+    pub nodes: Nodes,
     // How many classes there are.
     pub count: u16,
     ghost few: { states ≤ 512 },
-    ghost room: { 2048 ≤ vec_capacity nodes },
     ghost low: { Low states class },
     ghost led: { Led states class },
-    ghost here: { Here states class node nodes.items },
-    ghost orderly: { Orderly questions nodes.items },
+    ghost here: { Here states class node nodes.list.items },
+    ghost orderly: { Orderly questions nodes.list.items },
     ghost counted: { count ≡ leaders class states },
 }

@@ -5,17 +5,12 @@ ghost use Rattle.refine.specs.Pairs.{both_of, first_of, second_of};
 ghost use Rattle.refine.specs.Rounding.{Asking, Halved, One, Refining, Rounded};
 ghost use Rattle.refine.specs.Steps.{Few};
 
+use crate::nodes::Nodes;
 use crate::pair::Pair;
 use crate::partition::Partition;
 use kripke::node::Node;
+use kripke::operator::Operator;
 use std::alloc::{AllocError, Global};
-
-// The codes of true, a question and EX.
-const TRUTH: u8 = 0;
-
-const QUESTION: u8 = 1;
-
-const NEXT: u8 = 5;
 
 impl Partition {
     // All states in one class, whose formula is `true`. Every node that a comparison can need is reserved.
@@ -28,12 +23,8 @@ impl Partition {
         requires few { states ≤ 512 }
         ensures { IfOk result (λ p. One states questions p) }
     {
-        let mut nodes = Vec::with_capacity(heap, 2048)?;
-        nodes.push_reserved(Node {
-            code: TRUTH,
-            a: 0,
-            b: 0,
-        });
+        let mut nodes = Nodes::with_room(heap)?;
+        nodes.list.push_reserved(Node::new(Operator::Truth, 0, 0));
         Ok(Partition {
             states,
             questions,
@@ -55,33 +46,19 @@ impl Partition {
         let questions = self.questions;
         for q in 0..questions {
             let row = pair.answer_row(q);
-            self.split(
-                Node {
-                    code: QUESTION,
-                    a: q as u16,
-                    b: 0,
-                },
-                &row,
-            );
+            self.split(Node::new(Operator::Question, q as u16, 0), &row);
         }
     }
 
     // Splits every class by one class of the table before, whose node is `name`: which states have a successor there.
     fn split_by(&mut self, pair: &Pair, before: &[u16; 512], c: u16, name: u16)
-        requires fits { T (next_node self.old.questions (length self.old.nodes.items) (record { code = 5; a = name; b = 0 })) }
+        requires fits { T (next_node self.old.questions (length self.old.nodes.list.items) (record { code = 5; a = name; b = 0 })) }
         requires few { Few self.old }
         ensures halved { Halved pair.now before.now c name self.old self.new }
         ensures few { Few self.new }
     {
         let row = pair.successor_row(before, c);
-        self.split(
-            Node {
-                code: NEXT,
-                a: name,
-                b: 0,
-            },
-            &row,
-        );
+        self.split(Node::new(Operator::EX, name, 0), &row);
     }
 
     // Splits every class by each class of the table before, whose nodes are `names`.

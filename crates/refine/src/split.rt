@@ -3,7 +3,6 @@ ghost use Rattle.refine.specs.Growth.{next_node};
 ghost use Rattle.refine.specs.Steps.{Divided, Few, Odd, Parted, Scanned, at, class_of, moved};
 ghost use Rattle.std.specs.Bool.{beq};
 
-use crate::growth::{begin, conjoin};
 use crate::partition::Partition;
 use kripke::node::Node;
 
@@ -29,8 +28,8 @@ fn renumber(class: &mut [u16; 512], row: &[bool; 512], states: u16, c: u16, s: u
 impl Partition {
     // Parts the class of s by the row, which node x describes and node x + 1 negates: the states that agree with s get the number s.
     fn part(&mut self, s: u16, x: u16, row: &[bool; 512])
-        requires room { length self.old.nodes.items + 2 ≤ 2048 }
-        requires inside { suc x < length self.old.nodes.items }
+        requires room { length self.old.nodes.list.items + 2 ≤ 2048 }
+        requires inside { suc x < length self.old.nodes.list.items }
         requires odd { Odd self.old s row.now }
         ensures { Parted self.old self.new x s row.now }
     {
@@ -39,8 +38,8 @@ impl Partition {
         let side = row[s as usize];
         let stays = pick(side, x + 1, x);
         let leaves = pick(side, x, x + 1);
-        let stay = conjoin(&mut self.nodes, whole, stays);
-        let leave = conjoin(&mut self.nodes, whole, leaves);
+        let stay = self.nodes.conjoin(whole, stays);
+        let leave = self.nodes.conjoin(whole, leaves);
         self.node[c as usize] = stay;
         self.node[s as usize] = leave;
         renumber(&mut self.class, row, self.states, c, s);
@@ -72,7 +71,7 @@ impl Partition {
     // Parts every class from the state `from` on, where the test is node x.
     fn scan(&mut self, from: u16, x: u16, row: &[bool; 512])
         requires start { from ≤ self.old.states }
-        requires inside { suc x < length self.old.nodes.items }
+        requires inside { suc x < length self.old.nodes.list.items }
         requires sorted { (t : ℕ) → t < from → at row.now (class_of self.old t) ≡ at row.now t }
         requires few { Few self.old }
         ensures scanned { Scanned self.old self.new x row.now self.old.states }
@@ -88,14 +87,14 @@ impl Partition {
 
     // Splits every class by the row. The test is added, with its negation, only if some class falls apart.
     pub(crate) fn split(&mut self, test: Node, row: &[bool; 512])
-        requires fits { T (next_node self.old.questions (length self.old.nodes.items) test) }
+        requires fits { T (next_node self.old.questions (length self.old.nodes.list.items) test) }
         requires few { Few self.old }
         ensures divided { Divided self.old self.new test row.now }
         ensures few { Few self.new }
     {
         let s = self.first_odd(row);
         if s < self.states {
-            let x = begin(&mut self.nodes, test);
+            let x = self.nodes.begin(test);
             self.part(s, x, row);
             self.scan(s + 1, x, row);
         }

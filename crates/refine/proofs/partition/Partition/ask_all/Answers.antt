@@ -1,4 +1,7 @@
-use Rattle.std.proofs.Common.{arith}
+use Rattle.std.proofs.Common.{T, length, vec_items, sym, subst, arith}
+use Rattle.kripke.specs.declared.node.Node.{Node}
+use Rattle.refine.specs.Growth.{next_node}
+use Rattle.refine.specs.Steps.{Divided}
 use Rattle.refine.specs.Pairs.{both_of}
 use Rattle.refine.proofs.Orders.{T_and, lt_T}
 use Rattle.refine.proofs.Begins.{asking_none, asking_more}
@@ -9,13 +12,13 @@ loop-q-init c = (asking_none (both_of c.args.pair.now) c.args.self.now, c.requir
 
 pub split-requires : goal.split-requires
 split-requires c = record {
-  fits = T_and _ _ (lt_T c.loop-q.q c.loop-q.self.questions (omega (arith, c.loop-q-test.true, c.loop-q.invariant.0.keeps.questions))) tt;
+  fits = subst (λ (n : Node). T (next_node c.loop-q.self.questions (length (vec_items c.loop-q.self.nodes.list)) n)) (sym c.new.ensures) (T_and _ _ (lt_T c.loop-q.q c.loop-q.self.questions (omega (arith, c.loop-q-test.true, c.loop-q.invariant.0.keeps.questions))) tt);
   few = c.loop-q.invariant.1;
 }
 
 pub loop-q-preserved : goal.loop-q-preserved
 loop-q-preserved c = (
   asking_more (both_of c.args.pair.now) c.args.self.now c.loop-q.self c.split.new.self c.loop-q.q c.answer_row-row.result c.loop-q.invariant.0
-      (λ s h. c.answer_row-row.ensures s (omega (arith, h, c.requires.long))) c.split.ensures.divided,
+      (λ s h. c.answer_row-row.ensures s (omega (arith, h, c.requires.long))) (subst (λ (n : Node). Divided c.loop-q.self c.split.new.self n c.answer_row-row.result) c.new.ensures c.split.ensures.divided),
   c.split.ensures.few,
 )

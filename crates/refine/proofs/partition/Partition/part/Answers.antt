@@ -14,10 +14,9 @@ pub invariant_of-self : goal.invariant_of-self
 invariant_of-self c =
     let p : Partition = c.args.self.now in
     let k : Cut = cut c.args.self.now c.args.s c.args.x c.args.row.now c.requires.odd c.requires.inside (search rules)
-    c.pick-stays.result c.pick-leaves.result c.pick-stays.ensures c.pick-leaves.ensures _ _ _ _ c.conjoin-stay.ensures.conjoined c.conjoin-leave.ensures.conjoined _ c.renumber.ensures in
+    c.pick-stays.result c.pick-leaves.result c.pick-stays.ensures c.pick-leaves.ensures _ _ _ _ c.conjoin-stay.ensures c.conjoin-leave.ensures _ c.renumber.ensures in
     record {
       few = p.few;
-      room = c.conjoin-leave.ensures.room;
       low = part_low k;
       led = part_led k;
       here = part_here k;
@@ -29,7 +28,7 @@ pub returns : goal.returns
 returns c =
     let p : Partition = c.args.self.now in
     let k : Cut = cut c.args.self.now c.args.s c.args.x c.args.row.now c.requires.odd c.requires.inside (search rules)
-    c.pick-stays.result c.pick-leaves.result c.pick-stays.ensures c.pick-leaves.ensures _ _ _ _ c.conjoin-stay.ensures.conjoined c.conjoin-leave.ensures.conjoined _ c.renumber.ensures in
+    c.pick-stays.result c.pick-leaves.result c.pick-stays.ensures c.pick-leaves.ensures _ _ _ _ c.conjoin-stay.ensures c.conjoin-leave.ensures _ c.renumber.ensures in
     record {
       keeps = record { states = refl; questions = refl; extends = part_extends k; more = omega arith; still = λ h. absurd (omega arith) };
       nodes = part_nodes k;

@@ -27,13 +27,13 @@ loop-s-preserved c =
     elim c.if-not-agrees.branch [
       | then-not-agrees w ↦
           (let o = odd_here p q c.args.x c.args.row.now c.loop-s.s c.agrees.result c.loop-s.invariant.0 c.loop-s-test.true c.agrees.ensures w.if-not-agrees.true in
-          subst (λ (r : Partition). Scanned p r c.args.x c.args.row.now (c.loop-s.s + 1) × Few r × (suc c.args.x < length (vec_items r.nodes))) (sym w.self-is) (
+          subst (λ (r : Partition). Scanned p r c.args.x c.args.row.now (c.loop-s.s + 1) × Few r × (suc c.args.x < length (vec_items r.nodes.list))) (sym w.self-is) (
             scanned_step p q w.part.new.self c.args.x c.args.row.now c.loop-s.s c.requires.inside c.loop-s.invariant.0 o w.part.ensures,
             few_step q w.part.new.self c.args.x c.loop-s.s c.args.row.now c.loop-s.invariant.1 w.part.ensures,
             omega (arith, c.loop-s.invariant.2, w.part.ensures.keeps.extends.longer),
           ))
       | else-not-agrees w ↦
-          subst (λ (r : Partition). Scanned p r c.args.x c.args.row.now (c.loop-s.s + 1) × Few r × (suc c.args.x < length (vec_items r.nodes))) (sym w.self-is) (
+          subst (λ (r : Partition). Scanned p r c.args.x c.args.row.now (c.loop-s.s + 1) × Few r × (suc c.args.x < length (vec_items r.nodes.list))) (sym w.self-is) (
             scanned_skip p q c.args.x c.args.row.now c.loop-s.s c.loop-s.invariant.0 (sym c.agrees.ensures ∙ w.if-not-agrees.false),
             c.loop-s.invariant.1,
             c.loop-s.invariant.2,

@@ -1,4 +1,4 @@
-use Rattle.std.proofs.Common.{◌≡◌, ℕ, List, [], ◌∷◌, ◌++◌, replicate, vec_items, refl, ap, ◌∙◌, arith, rules}
+use Rattle.std.proofs.Common.{◌≡◌, ℕ, List, [], ◌∷◌, ◌++◌, replicate, vec_items, refl, ap, ◌∙◌, arith}
 use Rattle.kripke.specs.Nodes.{blank}
 use Rattle.kripke.specs.declared.node.Node.{Node}
 use Rattle.refine.proofs.Begins.{zeros, one_long, one_low, one_led, one_here, one_exact, one_shallow, one_orderly, one_count}
@@ -8,10 +8,9 @@ pub invariant_of-result : goal.invariant_of-result
 invariant_of-result c =
     let z : List ℕ = replicate 512 0 in
     let ns : List Node = vec_items c.push_reserved.new.self in
-    let e : ns ≡ [] ++ blank ∷ [] = c.push_reserved.ensures.items ∙ ap (λ (l : List Node). l ++ blank ∷ []) c.in_ok-nodes.ensures.items in
+    let e : ns ≡ [] ++ blank ∷ [] = c.push_reserved.ensures.items ∙ ap (λ (n : Node). vec_items c.in_ok-nodes.nodes.list ++ n ∷ []) c.new.ensures ∙ ap (λ (l : List Node). l ++ blank ∷ []) c.in_ok-nodes.ensures in
     record {
       few = c.requires.few;
-      room = search rules;
       low = one_low z z (zeros 512) (zeros 512) ns e c.args.states;
       led = one_led z z (zeros 512) (zeros 512) ns e c.args.states;
       here = one_here z z (zeros 512) (zeros 512) ns e c.args.states;
@@ -23,7 +22,7 @@ pub returns : goal.returns
 returns c =
     let z : List ℕ = replicate 512 0 in
     let ns : List Node = vec_items c.push_reserved.new.self in
-    let e : ns ≡ [] ++ blank ∷ [] = c.push_reserved.ensures.items ∙ ap (λ (l : List Node). l ++ blank ∷ []) c.in_ok-nodes.ensures.items in
+    let e : ns ≡ [] ++ blank ∷ [] = c.push_reserved.ensures.items ∙ ap (λ (n : Node). vec_items c.in_ok-nodes.nodes.list ++ n ∷ []) c.new.ensures ∙ ap (λ (l : List Node). l ++ blank ∷ []) c.in_ok-nodes.ensures in
     record {
       states_is = refl;
       questions_is = refl;
