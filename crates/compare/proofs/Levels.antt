@@ -62,10 +62,10 @@ module _ (r : Refinement) where
   pub total_few : total (first r) (second r) ≤ 512
   total_few = omega (arith, r.long, r.parts.few)
 
-  pub nodes_few : length (vec_items r.parts.nodes) + 3 ≤ 4 * total (first r) (second r)
+  pub nodes_few : length (vec_items r.parts.nodes.list) + 3 ≤ 4 * total (first r) (second r)
   nodes_few = omega (arith, r.few, count_le r.parts, r.long)
 
-  pub nodes_fit : length (vec_items r.parts.nodes) ≤ 2045
+  pub nodes_fit : length (vec_items r.parts.nodes.list) ≤ 2045
   nodes_fit = omega (arith, r.few, count_le r.parts, r.parts.few)
 
   pub kept_none : level (first r) (second r) r.rounds ≡ true → (ns : List Node) → ns ≡ [] → Kept r ns
@@ -77,7 +77,7 @@ module _ (r : Refinement) where
   })
 
   module _ (e : level (first r) (second r) r.rounds ≡ false) (ns : List Node)
-      (h : Pruned (questions r) (vec_items r.parts.nodes) (get_or r.parts.node (class_of r.parts one) 0) ns) where
+      (h : Pruned (questions r) (vec_items r.parts.nodes.list) (get_or r.parts.node (class_of r.parts one) 0) ns) where
     same_root : root ns ≡ class_formula r.parts one
     same_root = h.same
 

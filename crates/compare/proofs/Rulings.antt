@@ -1,9 +1,9 @@
 -- The closing rule as a test, and what follows from it for the calls.
-use Rattle.std.proofs.Common.{◌≡◌, ℕ, zero, suc, ◌+◌, ◌*◌, ◌<◌, ◌≤◌, Bool, true, false, cond, not, ◌||◌, T, sym, refl, ap, ◌∙◌, subst, inl, inr, arith}
+use Rattle.std.proofs.Common.{◌≡◌, ℕ, zero, suc, ◌+◌, ◌*◌, ◌<◌, ◌≤◌, Bool, true, false, not, ◌||◌, T, Some, None, sym, refl, ap, ◌∙◌, subst, inl, inr, arith}
 use native.Mathlib.Decide.{ℕ_discrete}
 use Rattle.kripke.specs.Structure.{Kripke, Lawful}
 use Rattle.kripke.specs.Rounds.{Same, Apart, total, ClosedDifferent, ClosedAlike, ClosedAfter, FirstClosed}
-use Rattle.kripke.specs.Refusals.{Before, Clean, First}
+use Rattle.kripke.specs.Refusals.{Before, Clean, First, Rules, number_of}
 use Rattle.kripke.specs.declared.refusal.Cause.{Cause}
 use Rattle.kripke.specs.declared.refusal.Cause.TheVariants.{ClosedComparison, StateNumber, OpenComparison, NotDifferent, FewPlaces}
 use Rattle.kripke.specs.declared.refusal.Layer.TheVariants as layer
@@ -11,7 +11,7 @@ use Rattle.kripke.specs.declared.refusal.Refusal.{Refusal}
 use Rattle.kripke.proofs.Reflect.{same-T, settled-T, or_T}
 use Rattle.kripke.proofs.Closing.{still_open, alike_agree, different_separated}
 use Rattle.refine.specs.Stages.{rested}
-use Rattle.compare.specs.Closing.{level, closed}
+use Rattle.compare.specs.Closing.{level, closed, Reached}
 use Rattle.compare.specs.Breaches as breach
 use Rattle.compare.specs.Breaches.{RoundBreach, ClassBreach, VerdictBreach, TableBreach, FormulaBreach, beyond, unclosed, undivided, no_difference, few}
 use Rattle.compare.specs.Answers.{Decides}
@@ -67,6 +67,17 @@ fresh_more a b k h e j l = elim (ℕ_discrete j k) [
   | no z ↦ h j (omega arith)
 ]
 
+-- The tests of an open comparison.
+pub open_test : (a b : Kripke) (k : ℕ) → (ClosedAfter a b k → ⊥) → closed a b k ≡ false
+open_test a b k h = go (closed a b k) refl
+  where
+    go : (c : Bool) → closed a b k ≡ c → closed a b k ≡ false
+    go false e = e
+    go true e = absurd (h (closed_of a b k (subst T (sym e) tt)))
+
+pub reached_none : (a b : Kripke) (k : ℕ) → level a b k ≡ true → rested a b k ≡ false → Reached a b k None
+reached_none a b k e f z = no_T (closed a b k) (ap (λ l. not l || rested a b k) e ∙ f) (closed_to a b k z)
+
 pub fresh_closed : (a b : Kripke) (k : ℕ) → Fresh a b k → (j : ℕ) → j < k → ClosedAfter a b j → ⊥
 fresh_closed a b k h j l z = not_T _ (h j l) (closed_to a b j z)
 
@@ -79,12 +90,12 @@ module _ (q : ℕ) (a b : Kripke) (la : Lawful q a) (lb : Lawful q b) where
   fresh_soon zero h = omega arith
   fresh_soon (suc k) h = still_open q a b la lb k (λ j l. fresh_closed a b (suc k) h j (omega arith))
 
-  pub first_different : (k : ℕ) → Fresh a b k → level a b k ≡ false → FirstClosed a b k
-  first_different k h e = (inl (different_T a b k e), fresh_closed a b k h)
+  pub first_different : (k : ℕ) → Fresh a b k → ClosedDifferent a b k → FirstClosed a b k
+  first_different k h d = (inl d, fresh_closed a b k h)
 
-  pub decides_different : (k : ℕ) → Fresh a b k → level a b k ≡ false → Decides a b k (record { rounds = k; outcome = Different })
-  decides_different k h e =
-      let z = (different_separated q a b la lb k (first_different k h e) (different_T a b k e)).0 in
+  decides_different : (k : ℕ) → Fresh a b k → ClosedDifferent a b k → Decides a b k (record { rounds = k; outcome = Different })
+  decides_different k h d =
+      let z = (different_separated q a b la lb k (first_different k h d) d).0 in
       let x : Apart a b a.initial b.initial = (z.0, z.3) in
       record {
         rounds = refl;
@@ -93,9 +104,9 @@ module _ (q : ℕ) (a b : Kripke) (la : Lawful q a) (lb : Lawful q b) where
         different = (λ w. x, λ w. refl);
       }
 
-  pub decides_alike : (k : ℕ) → Fresh a b k → level a b k ≡ true → rested a b k ≡ true → Decides a b k (record { rounds = k; outcome = Alike })
-  decides_alike k h e r =
-      let x : Apart a b a.initial b.initial → ⊥ = alike_agree q a b la lb k (alike_T a b k e r) in
+  decides_alike : (k : ℕ) → Fresh a b k → ClosedAlike a b k → Decides a b k (record { rounds = k; outcome = Alike })
+  decides_alike k h r =
+      let x : Apart a b a.initial b.initial → ⊥ = alike_agree q a b la lb k r in
       record {
         rounds = refl;
         soon = fresh_soon k h;
@@ -103,65 +114,65 @@ module _ (q : ℕ) (a b : Kripke) (la : Lawful q a) (lb : Lawful q b) where
         different = (λ w. absurd (let y : ◌≡◌ {A = ℕ} 0 1 = cc in omega arith), λ w. absurd (x w));
       }
 
-  -- A closed comparison's verdict, by the test of the initial states.
-  pub decides : (k : ℕ) → Fresh a b k → closed a b k ≡ true → (d : Bool) (o : Outcome) → d ≡ not (level a b k) → o ≡ cond d Different Alike
-      → Decides a b k (record { rounds = k; outcome = o })
-  decides k h e d o f g =
-      subst (λ (z : Outcome). Decides a b k (record { rounds = k; outcome = z })) (sym (g ∙ ap (λ x. cond x Different Alike) f)) (go (level a b k) (rested a b k) refl refl)
-    where
-      go : (l r : Bool) → level a b k ≡ l → rested a b k ≡ r → Decides a b k (record { rounds = k; outcome = cond (not l) Different Alike })
-      go false r p q = decides_different k h p
-      go true true p q = decides_alike k h p q
-      go true false p q = absurd (let w : closed a b k ≡ false = ap (λ l. not l || rested a b k) p ∙ q in let z : ◌≡◌ {A = ℕ} 0 1 = cc in omega arith)
+  -- A closed comparison's verdict.
+  pub decides : (k : ℕ) → Fresh a b k → (o : Outcome) → Reached a b k (Some o) → Decides a b k (record { rounds = k; outcome = o })
+  decides k h Different r = decides_different k h r
+  decides k h Alike r = decides_alike k h r
 
--- Refusals, each the first breach.
+pub reached_closed : (a b : Kripke) (k : ℕ) (o : Outcome) → Reached a b k (Some o) → ClosedAfter a b k
+reached_closed a b k Different r = inl r
+reached_closed a b k Alike r = inr r
+
+-- The refusal of the one breach that there can be.
+refused : (V : Rules) (c : Cause) (p : ℕ) → ((d : Cause) (q : ℕ) → V d q → (d ≡ c) × (q ≡ p)) → V c p
+    → (e : Refusal) → e ≡ record { cause = c; layer = layer.Comparison; place = p } → First V layer.Comparison e
+refused V c p one b e is = subst (λ (z : Refusal). First V layer.Comparison z) (sym is) (record { broken = b; least = least; layered = refl })
+  where
+    least : (d : Cause) (q : ℕ) → Before d q c p → V d q → ⊥
+    least d q (inl l) v = omega (arith, l, ap number_of (one d q v).0)
+    least d q (inr l) v = omega (arith, l.1, (one d q v).1)
+
 module _ (a b : Kripke) (k : ℕ) where
-  round_least : (d : Cause) (p : ℕ) → Before d p ClosedComparison k → RoundBreach a b k d p → ⊥
-  round_least _ _ (inl l) (breach.closed z) = omega arith
-  round_least _ _ (inr l) (breach.closed z) = omega (arith, l.1)
+  round_one : (d : Cause) (p : ℕ) → RoundBreach a b k d p → (d ≡ ClosedComparison) × (p ≡ k)
+  round_one _ _ (breach.closed z) = (refl, refl)
 
-  pub round_refused : closed a b k ≡ true → First (RoundBreach a b k) layer.Comparison (record { cause = ClosedComparison; layer = layer.Comparison; place = k })
-  round_refused e = record { broken = breach.closed (closed_of a b k (subst T (sym e) tt)); least = round_least; layered = refl }
+  pub round_refused : ClosedAfter a b k → (e : Refusal) → e ≡ record { cause = ClosedComparison; layer = layer.Comparison; place = k }
+      → First (RoundBreach a b k) layer.Comparison e
+  round_refused z = refused (RoundBreach a b k) _ _ round_one (breach.closed z)
 
-  pub round_clean : closed a b k ≡ false → Clean (RoundBreach a b k)
-  round_clean e _ _ (breach.closed z) = no_T _ e (closed_to a b k z)
+  pub round_clean : (ClosedAfter a b k → ⊥) → Clean (RoundBreach a b k)
+  round_clean h _ _ (breach.closed z) = h z
 
-  verdict_least : (d : Cause) (p : ℕ) → Before d p OpenComparison k → VerdictBreach a b k d p → ⊥
-  verdict_least _ _ (inl l) (unclosed z) = omega arith
-  verdict_least _ _ (inr l) (unclosed z) = omega (arith, l.1)
+  verdict_one : (d : Cause) (p : ℕ) → VerdictBreach a b k d p → (d ≡ OpenComparison) × (p ≡ k)
+  verdict_one _ _ (unclosed z) = (refl, refl)
 
-  pub verdict_refused : closed a b k ≡ false
-      → First (VerdictBreach a b k) layer.Comparison (record { cause = OpenComparison; layer = layer.Comparison; place = k })
-  verdict_refused e = record {
-    broken = unclosed (λ z. no_T (closed a b k) e (closed_to a b k z));
-    least = verdict_least;
-    layered = refl;
-  }
+  pub verdict_refused : (ClosedAfter a b k → ⊥) → (e : Refusal) → e ≡ record { cause = OpenComparison; layer = layer.Comparison; place = k }
+      → First (VerdictBreach a b k) layer.Comparison e
+  verdict_refused z = refused (VerdictBreach a b k) _ _ verdict_one (unclosed z)
 
   pub verdict_clean : ClosedAfter a b k → Clean (VerdictBreach a b k)
   verdict_clean c _ _ (unclosed z) = z c
 
-module _ (a b : Kripke) (i : ℕ) where
-  class_least : (d : Cause) (p : ℕ) → Before d p StateNumber i → ClassBreach a b i d p → ⊥
-  class_least _ _ (inl l) (beyond z) = omega arith
-  class_least _ _ (inr l) (beyond z) = omega (arith, l.1)
+  table_one : (d : Cause) (p : ℕ) → TableBreach a b k d p → (d ≡ NotDifferent) × (p ≡ k)
+  table_one _ _ (undivided z) = (refl, refl)
 
-  pub class_refused : total a b ≤ i → First (ClassBreach a b i) layer.Comparison (record { cause = StateNumber; layer = layer.Comparison; place = i })
-  class_refused h = record { broken = beyond h; least = class_least; layered = refl }
-
-  pub class_clean : i < total a b → Clean (ClassBreach a b i)
-  class_clean h _ _ (beyond z) = omega arith
-
-module _ (a b : Kripke) (k : ℕ) where
-  table_least : (d : Cause) (p : ℕ) → Before d p NotDifferent k → TableBreach a b k d p → ⊥
-  table_least _ _ (inl l) (undivided z) = omega arith
-  table_least _ _ (inr l) (undivided z) = omega (arith, l.1)
-
-  pub table_refused : level a b k ≡ true → First (TableBreach a b k) layer.Comparison (record { cause = NotDifferent; layer = layer.Comparison; place = k })
-  table_refused e = record { broken = undivided (λ d. d (same_of a b k e)); least = table_least; layered = refl }
+  pub table_refused : level a b k ≡ true → (e : Refusal) → e ≡ record { cause = NotDifferent; layer = layer.Comparison; place = k }
+      → First (TableBreach a b k) layer.Comparison e
+  table_refused e = refused (TableBreach a b k) _ _ table_one (undivided (λ d. d (same_of a b k e)))
 
   pub table_clean : level a b k ≡ false → Clean (TableBreach a b k)
   table_clean e _ _ (undivided z) = z (different_T a b k e)
+
+module _ (a b : Kripke) (i : ℕ) where
+  class_one : (d : Cause) (p : ℕ) → ClassBreach a b i d p → (d ≡ StateNumber) × (p ≡ i)
+  class_one _ _ (beyond z) = (refl, refl)
+
+  pub class_refused : total a b ≤ i → (e : Refusal) → e ≡ record { cause = StateNumber; layer = layer.Comparison; place = i }
+      → First (ClassBreach a b i) layer.Comparison e
+  class_refused h = refused (ClassBreach a b i) _ _ class_one (beyond h)
+
+  pub class_clean : i < total a b → Clean (ClassBreach a b i)
+  class_clean h _ _ (beyond z) = omega arith
 
 module _ (a b : Kripke) (k places : ℕ) where
   formula_broken : (c : Cause) (p : ℕ) → TableBreach a b k c p → FormulaBreach a b k places c p
@@ -183,8 +194,9 @@ module _ (a b : Kripke) (k places : ℕ) where
   places_least h _ _ (inr l) (few z) = omega (arith, l.1)
 
   pub places_refused : Clean (TableBreach a b k) → places + 3 < 4 * total a b
-      → First (FormulaBreach a b k places) layer.Comparison (record { cause = FewPlaces; layer = layer.Comparison; place = places })
-  places_refused h l = record { broken = few l; least = places_least h; layered = refl }
+      → (e : Refusal) → e ≡ record { cause = FewPlaces; layer = layer.Comparison; place = places } → First (FormulaBreach a b k places) layer.Comparison e
+  places_refused h l e is = subst (λ (z : Refusal). First (FormulaBreach a b k places) layer.Comparison z) (sym is)
+      (record { broken = few l; least = places_least h; layered = refl })
 
   pub formula_clean : Clean (TableBreach a b k) → 4 * total a b ≤ places + 3 → Clean (FormulaBreach a b k places)
   formula_clean h l _ _ (no_difference z) = h _ _ (undivided z)

@@ -72,7 +72,7 @@ module _ (c : Comparison) (e : level (first c) (second c) (rounds c) ≡ false) 
 
   least : (f : Formula) → NextOnly f → Separates (first c) (second c) (first c).initial (second c).initial f → rounds c ≤ nesting f
   least = (different_separated (questions c) (first c) (second c) (first_lawful c.stages) (second_lawful c.stages) (rounds c)
-      (first_different (questions c) (first c) (second c) (first_lawful c.stages) (second_lawful c.stages) (rounds c) c.open e) (different_T (first c) (second c) (rounds c) e)).1
+      (first_different (questions c) (first c) (second c) (first_lawful c.stages) (second_lawful c.stages) (rounds c) c.open (different_T (first c) (second c) (rounds c) e)) (different_T (first c) (second c) (rounds c) e)).1
 
   pub separating : Separating (first c) (second c) (questions c) (rounds c) (table c)
   separating = record {

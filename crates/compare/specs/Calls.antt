@@ -22,7 +22,7 @@ rounds c = c.stages.rounds
 
 -- The table of the kept formula: a table reading lends it, and a formula reading copies it out.
 abbrev pub table : Comparison → List Node
-table c = vec_items c.formula
+table c = vec_items c.formula.list
 
 -- Two models with q questions, and no round yet.
 pub record Opened (q : ℕ) (a b : Kripke) (c : Comparison) : Type 0 where
