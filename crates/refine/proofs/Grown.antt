@@ -1,11 +1,11 @@
 -- Tables that grow: a test with its negation, and conjunctions.
-use Rattle.std.proofs.Common.{◌≡◌, ℕ, suc, ◌<◌, ◌≤◌, ◌&&◌, List, [], ◌∷◌, ◌++◌, length, get_or, sym, refl, ap, ◌∙◌, subst, arith}
+use Rattle.std.proofs.Common.{◌≡◌, ℕ, suc, ◌<◌, ◌≤◌, ◌&&◌, List, [], ◌∷◌, ◌++◌, length, get_or, sym, refl, ap, ◌∙◌, subst, Some, None, arith}
 use Rattle.std.proofs.lemmas.List.{length_push}
 use Rattle.kripke.specs.Ctl.{Formula, truth, and, nesting}
 use Rattle.kripke.specs.Nodes.{made, formulas, formula, blank}
 use Rattle.kripke.specs.declared.node.Node.{Node}
 use Rattle.kripke.proofs.Tables.{formula_keeps, formula_new}
-use Rattle.refine.specs.Growth.{Extends, Begun, Conjoined}
+use Rattle.refine.specs.Growth.{Extends, Names, Ready, Named, Conjoined}
 use Rattle.refine.proofs.Orders.{T_and, lt_T, node_is, made_at, orderly_push}
 
 pub extends_refl : (ns : List Node) → Extends ns ns
@@ -23,7 +23,7 @@ push_new ns ms n i e l = ap (λ (z : List Node). formula z i) e ∙ formula_new 
 pub push_longer : (ns ms : List Node) (n : Node) → ms ≡ ns ++ n ∷ [] → length ms ≡ suc (length ns)
 push_longer ns ms n e = omega (arith, ap length e, length_push ns n)
 
-pub begun : (ns m1 ms : List Node) (test : Node) (x : ℕ) → length ns ≡ x → m1 ≡ ns ++ test ∷ [] → ms ≡ m1 ++ record { code = 2; a = x; b = 0 } ∷ [] → Begun ns ms test x
+pub begun : (ns m1 ms : List Node) (test : Node) (x : ℕ) → length ns ≡ x → m1 ≡ ns ++ test ∷ [] → ms ≡ m1 ++ record { code = 2; a = x; b = 0 } ∷ [] → Named ns ms test None x
 begun ns m1 ms test x l e1 e2 =
     let n2 : Node = record { code = 2; a = x; b = 0 } in
     let l1 = push_longer ns m1 test e1 in
@@ -32,11 +32,29 @@ begun ns m1 ms test x l e1 e2 =
     record {
       extends = extends_trans ns m1 ms (extends_push ns m1 test e1) x2;
       count = omega (arith, l1, l2);
-      inside = omega (arith, l, l1, l2);
-      yes = x2.same x (omega (arith, l, l1)) ∙ push_new ns m1 test x e1 l;
-      no = push_new m1 ms n2 (suc x) e2 (omega (arith, l, l1)) ∙ ap Formula.not (push_new ns m1 test x e1 l);
+      names = record {
+        inside = omega (arith, l, l1, l2);
+        yes = x2.same x (omega (arith, l, l1)) ∙ push_new ns m1 test x e1 l;
+        no = push_new m1 ms n2 (suc x) e2 (omega (arith, l, l1)) ∙ ap Formula.not (push_new ns m1 test x e1 l);
+      };
       orderly = λ q f h. orderly_push q m1 ms n2 e2 (orderly_push q ns m1 test e1 h f) (T_and _ _ (lt_T x (length m1) (omega (arith, l, l1))) tt);
     }
+
+-- A formula and its negation still stand in a table that has grown.
+pub names_on : (ns ms : List Node) (x : ℕ) (f : Formula) → Extends ns ms → Names ns x f → Names ms x f
+names_on ns ms x f e n = record {
+  inside = omega (arith, n.inside, e.longer);
+  yes = e.same x (omega (arith, n.inside)) ∙ n.yes;
+  no = e.same (suc x) n.inside ∙ n.no;
+}
+
+-- The number is known: nothing is added.
+pub known : (ns : List Node) (test : Node) (x : ℕ) → Names ns x (formula ns x) → Named ns ns test (Some x) x
+known ns test x n = record { extends = extends_refl ns; count = omega arith; names = n; orderly = λ q r h. h }
+
+-- The test stands at its number, also for the next class that it parts.
+pub ready : (q : ℕ) (ns : List Node) (test : Node) (x : ℕ) (f : Formula) → Names ns x f → Ready q ns test (Some x)
+ready q ns test x f n = record { inside = n.inside; yes = refl; no = n.no ∙ ap Formula.not (sym n.yes) }
 
 -- Where a is `true`, the conjunction is b.
 pub conjoined_true : (ns : List Node) (a b : ℕ) → a < length ns → b < length ns → (get_or ns a blank).code ≡ 0 → Conjoined ns ns a b b

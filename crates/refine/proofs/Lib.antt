@@ -8,7 +8,6 @@ pub mod Grown
 pub mod Step
 pub mod Part
 pub mod Scan
-pub mod Divide
 pub mod Begins
 pub mod Rounding
 pub mod Staging

@@ -1,5 +1,5 @@
 -- One class of a partition is parted by a row: its table, its nodes and their formulas.
-use Rattle.std.proofs.Common.{◌≡◌, ℕ, suc, ◌+◌, ◌<◌, ◌≤◌, Bool, true, false, cond, not, ◌&&◌, eqb, ◌≢◌, List, length, get_or, set, vec_items, sym, refl, ap, ◌∙◌, subst, add-one, arith}
+use Rattle.std.proofs.Common.{◌≡◌, ℕ, suc, ◌+◌, ◌<◌, ◌≤◌, Bool, true, false, cond, not, ◌&&◌, eqb, ◌≢◌, List, length, get_or, set, vec_items, sym, refl, ap, ◌∙◌, subst, Option, arith}
 use mathlib.Core.Bool.{beq}
 use Rattle.std.proofs.lemmas.List.{get_or-set_same, get_or-set_other, length-set}
 use Rattle.kripke.specs.Ctl.{Formula, nesting}
@@ -7,7 +7,8 @@ use Rattle.kripke.specs.Nodes.{formula}
 use Rattle.kripke.specs.declared.node.Node.{Node}
 use Rattle.kripke.specs.Classes.{Low, Led}
 use Rattle.refine.specs.Classes.{Here, leaders}
-use Rattle.refine.specs.Growth.{Orderly, Extends, Boolean, Conjoined}
+use Rattle.std.specs.Int.{from_bool}
+use Rattle.refine.specs.Growth.{Orderly, Extends, Boolean, Ready, Named, Conjoined}
 use Rattle.refine.specs.Steps.{at, moved, Odd}
 use Rattle.refine.specs.declared.partition.Partition.{Partition}
 use Rattle.refine.proofs.Grown.{extends_trans}
@@ -61,22 +62,37 @@ pub record Cut : Type 0 where
   pub new : List ℕ
   pub is : (t : ℕ) → t < n → get_or new t 0 ≡ moved cl row (get_or cl s 0) s t
 
-abbrev pub cut : (p : Partition) (s x : ℕ) (row : List Bool) → Odd p s row → suc x < length (vec_items p.nodes.list) → p.states ≤ length p.node
-    → (stays leaves : ℕ) → stays ≡ cond (at row s) (x + 1) x → leaves ≡ cond (at row s) x (x + 1)
-    → (m1 ms : List Node) (stay leave : ℕ) → Conjoined (vec_items p.nodes.list) m1 (get_or p.node (get_or p.class s 0) 0) stays stay
-    → Conjoined m1 ms (get_or p.node (get_or p.class s 0) 0) leaves leave
+pub from_bool_le : (b : Bool) → from_bool b ≤ 1
+from_bool_le true = omega arith
+from_bool_le false = omega arith
+
+-- The number of the test where the side is yes, and of its negation where it is no; or the other way round.
+pub side_number : (b : Bool) (x k : ℕ) → k ≡ from_bool b → x + k ≡ cond b (suc x) x
+side_number true x k e = omega (arith, e)
+side_number false x k e = omega (arith, e)
+
+pub other_number : (b : Bool) (x k : ℕ) → k ≡ from_bool (not b) → x + k ≡ cond b x (suc x)
+other_number true x k e = omega (arith, e)
+other_number false x k e = omega (arith, e)
+
+abbrev pub cut : (p : Partition) (s : ℕ) (row : List Bool) → Odd p s row → p.states ≤ length p.node
+    → (test : Node) (name : Option ℕ) → Ready p.questions (vec_items p.nodes.list) test name
+    → (ns : List Node) (x : ℕ) → Named (vec_items p.nodes.list) ns test name x
+    → (i j : ℕ) → i ≡ from_bool (at row s) → j ≡ from_bool (not (at row s))
+    → (m1 ms : List Node) (stay leave : ℕ) → Conjoined ns m1 (get_or p.node (get_or p.class s 0) 0) (x + i) stay
+    → Conjoined m1 ms (get_or p.node (get_or p.class s 0) 0) (x + j) leave
     → (new : List ℕ) → ((t : ℕ) → t < p.states → get_or new t 0 ≡ moved p.class row (get_or p.class s 0) s t) → Cut
-cut p s x row o inside fit stays leaves stays_is leaves_is m1 ms stay leave j1 j2 new is =
+cut p s row o fit test name ready ns x named i j i_is j_is m1 ms stay leave j1 j2 new is =
     record {
       q = p.questions;
       n = p.states;
       cl = p.class;
       nd = p.node;
-      ns = vec_items p.nodes.list;
+      ns = ns;
       low = p.low;
       led = p.led;
-      here = p.here;
-      ordered = p.orderly;
+      here = λ t h. omega (arith, p.here t h, named.extends.longer);
+      ordered = named.orderly p.questions ready p.orderly;
       row = row;
       x = x;
       s = s;
@@ -84,11 +100,11 @@ cut p s x row o inside fit stays leaves stays_is leaves_is m1 ms stay leave j1 j
       fit = fit;
       odd = o.odd;
       first = o.first;
-      inside = inside;
-      stays = stays;
-      leaves = leaves;
-      stays_is = stays_is ∙ ap (λ z. cond (at row s) z x) (add-one x);
-      leaves_is = leaves_is ∙ ap (λ z. cond (at row s) x z) (add-one x);
+      inside = named.names.inside;
+      stays = x + i;
+      leaves = x + j;
+      stays_is = side_number (at row s) x i i_is;
+      leaves_is = other_number (at row s) x j j_is;
       m1 = m1;
       ms = ms;
       stay = stay;

@@ -1,15 +1,17 @@
 -- The scan of a split: classes parted one after another.
-use Rattle.std.proofs.Common.{◌≡◌, ℕ, suc, ◌+◌, ◌<◌, ◌≤◌, Bool, true, false, eqb, List, length, get_or, vec_items, sym, refl, ap, ◌∙◌, subst, ⊎_elim, arith}
+use Rattle.std.proofs.Common.{◌≡◌, ℕ, ◌+◌, ◌<◌, ◌≤◌, Bool, true, false, eqb, List, length, get_or, vec_items, sym, refl, ap, ◌∙◌, subst, ⊎_elim, Option, Some, None, arith}
 use mathlib.Core.Bool.{beq}
 use native.Mathlib.Decide.{ℕ_discrete}
 use Rattle.std.proofs.lemmas.Bool.{ne_eqb}
-use Rattle.kripke.specs.Ctl.{Formula, nesting}
+use Rattle.kripke.specs.Ctl.{Formula}
+use Rattle.kripke.specs.declared.node.Node.{Node}
 use Rattle.refine.specs.Classes.{leaders, bit}
-use Rattle.refine.specs.Steps.{at, node_formula, class_of, Stands, Odd, Keeps, Parted, Few, Scanned}
+use Rattle.refine.specs.Steps.{at, class_of, Tells, Odd, Keeps, Parted, Scanned, Divided, own}
 use Rattle.refine.specs.declared.partition.Partition.{Partition}
 use Rattle.refine.proofs.Sums.{sum_less, sum_mono, sum_ones, bit_le}
 use Rattle.refine.proofs.Part.{beq_refl}
-use Rattle.refine.proofs.Grown.{extends_refl, extends_trans}
+use Rattle.refine.specs.Growth.{Names, Ready, told}
+use Rattle.refine.proofs.Grown.{extends_refl, extends_trans, ready}
 use Rattle.refine.proofs.Step.{ways, one_before, one_after, new_s0}
 
 beq_eq : (a b : Bool) → beq a b ≡ true → a ≡ b
@@ -32,8 +34,8 @@ odd_fewer p s row o =
       sum_less (λ i. bit (eqb (get_or p.class i 0) i)) (λ i. 1) p.states (λ i h. bit_le (eqb (get_or p.class i 0) i)) s o.state l,
     )
 
-pub room_left : (p : Partition) (s : ℕ) (row : List Bool) → Odd p s row → Few p → length (vec_items p.nodes.list) + 4 ≤ 2048
-room_left p s row o f = omega (arith, odd_fewer p s row o, f, p.few, p.counted)
+pub room_left : (p : Partition) (s : ℕ) (row : List Bool) → Odd p s row → length (vec_items p.nodes.list) + 4 ≤ 2048
+room_left p s row o = omega (arith, odd_fewer p s row o, p.spare, p.few, p.counted)
 
 pub keeps_refl : (p : Partition) → Keeps p p
 keeps_refl p = record { states = refl; questions = refl; extends = extends_refl (vec_items p.nodes.list); more = omega arith; still = λ h. refl }
@@ -48,23 +50,16 @@ keeps_trans p q r h k =
       still = λ l. k.still (omega (arith, l, h.more)) ∙ h.still (omega (arith, l, k.more));
     }
 
--- A test stands in a table that has grown, nested no deeper.
-pub stands_on : (v : Formula → ℕ → Bool) (p q : Partition) (x : ℕ) (row : List Bool) → Keeps p q → suc x < length (vec_items p.nodes.list) → Stands v p x row → Stands v q x row
-stands_on v p q x row k l st =
-    record {
-      yes = λ t h. ap (λ (f : Formula). v f t) (k.extends.same x (omega arith)) ∙ st.yes t (omega (arith, h, k.states));
-      no = λ t h. ap (λ (f : Formula). v f t) (k.extends.same (suc x) l) ∙ st.no t (omega (arith, h, k.states));
-    }
+-- A row that tells of the states before tells of them after.
+tells_on : (v : Formula → ℕ → Bool) (p q : Partition) (f : Formula) (row : List Bool) → Keeps p q → Tells v p f row → Tells v q f row
+tells_on v p q f row k w t h = w t (omega (arith, h, k.states))
 
-pub nests_on : (d : ℕ) (p q : Partition) (x i : ℕ) → Keeps p q → i < length (vec_items p.nodes.list) → nesting (node_formula p i) ≤ d → nesting (node_formula q i) ≤ d
-nests_on d p q x i k l h = subst (λ (f : Formula). nesting f ≤ d) (sym (k.extends.same i l)) h
+pub scanned_none : (p : Partition) (f : Formula) (row : List Bool) → Scanned p p f row 0
+scanned_none p f row =
+    record { keeps = keeps_refl p; finer = λ s t hs ht e. e; kept = λ s t hs ht e r. e; sorted = λ t l. absurd (omega arith); exact = λ v w g old. old; shallow = λ d n old. old }
 
-pub scanned_start : (p : Partition) (x : ℕ) (row : List Bool) (i : ℕ) → ((t : ℕ) → t < i → at row (class_of p t) ≡ at row t) → Scanned p p x row i
-scanned_start p x row i h =
-    record { keeps = keeps_refl p; finer = λ s t hs ht e. e; kept = λ s t hs ht e r. e; sorted = h; exact = λ v w st old. old; shallow = λ d y n old. old }
-
-pub scanned_skip : (p q : Partition) (x : ℕ) (row : List Bool) (i : ℕ) → Scanned p q x row i → beq (at row (class_of q i)) (at row i) ≡ true → Scanned p q x row (i + 1)
-scanned_skip p q x row i h e =
+pub scanned_skip : (p q : Partition) (f : Formula) (row : List Bool) (i : ℕ) → Scanned p q f row i → beq (at row (class_of q i)) (at row i) ≡ true → Scanned p q f row (i + 1)
+scanned_skip p q f row i h e =
     record {
       keeps = h.keeps;
       finer = h.finer;
@@ -77,8 +72,7 @@ scanned_skip p q x row i h e =
       ];
     }
 
-module _ (p q r : Partition) (x : ℕ) (row : List Bool) (i : ℕ) (inside : suc x < length (vec_items p.nodes.list))
-    (h : Scanned p q x row i) (o : Odd q i row) (d : Parted q r x i row) where
+module _ (p q r : Partition) (f : Formula) (row : List Bool) (i : ℕ) (h : Scanned p q f row i) (o : Odd q i row) (d : Parted q r f i row) where
   abbrev n : ℕ
   n = q.states
 
@@ -109,7 +103,7 @@ module _ (p q r : Partition) (x : ℕ) (row : List Bool) (i : ℕ) (inside : suc
       (λ m. ap (λ v. at row v) m.1 ∙ h.sorted t l)
       (ways n cl new y c i q.low q.led o.state refl y0 o.odd first d.class t (omega (arith, l, o.state)))
 
-  pub scanned_step : Scanned p r x row (i + 1)
+  pub scanned_step : Scanned p r f row (i + 1)
   scanned_step =
       record {
         keeps = keeps_trans p q r h.keeps d.keeps;
@@ -120,31 +114,48 @@ module _ (p q r : Partition) (x : ℕ) (row : List Bool) (i : ℕ) (inside : suc
           | yes z ↦ subst (λ (v : ℕ). at row (new v) ≡ at row v) (sym z) (ap (λ v. at row v) (new_s0 n cl new y c i q.low q.led o.state refl y0 o.odd first d.class))
           | no e ↦ early t (omega arith)
         ];
-        exact = λ v w st old. d.exact v w (stands_on v p q x row h.keeps inside st) (h.exact v w st old);
-        shallow = λ e a b old. d.shallow e (nests_on e p q x x h.keeps (omega (arith, inside)) a) (nests_on e p q x (suc x) h.keeps inside b) (h.shallow e a b old);
+        exact = λ v w g old. d.exact v w (tells_on v p q f row h.keeps g) (h.exact v w g old);
+        shallow = λ e n old. d.shallow e n (h.shallow e n old);
       }
 
-pub scanned_trans : (p q r : Partition) (x : ℕ) (row : List Bool) (i j : ℕ) → suc x < length (vec_items p.nodes.list) → Scanned p q x row i → Scanned q r x row j → Scanned p r x row j
-scanned_trans p q r x row i j inside h k =
-    record {
-      keeps = keeps_trans p q r h.keeps k.keeps;
-      finer = λ s t hs ht e. h.finer s t hs ht (k.finer s t (to s hs) (to t ht) e);
-      kept = λ s t hs ht e rr. k.kept s t (to s hs) (to t ht) (h.kept s t hs ht e rr) rr;
-      sorted = k.sorted;
-      exact = λ v w st old. k.exact v w (stands_on v p q x row h.keeps inside st) (h.exact v w st old);
-      shallow = λ e a b old. k.shallow e (nests_on e p q x x h.keeps (omega (arith, inside)) a) (nests_on e p q x (suc x) h.keeps inside b) (h.shallow e a b old);
-    }
-  where
-    to : (s : ℕ) → s < p.states → s < q.states
-    to s l = omega (arith, l, h.keeps.states)
-
 -- the test at `i` failed
-pub odd_here : (p q : Partition) (x : ℕ) (row : List Bool) (i : ℕ) (r : Bool) → Scanned p q x row i → i < p.states
+pub odd_here : (p q : Partition) (f : Formula) (row : List Bool) (i : ℕ) (r : Bool) → Scanned p q f row i → i < p.states
     → r ≡ beq (at row (class_of q i)) (at row i) → r ≡ false → Odd q i row
-odd_here p q x row i r h l e f = record { state = omega (arith, l, h.keeps.states); odd = sym e ∙ f; first = h.sorted }
+odd_here p q f row i r h l e d = record { state = omega (arith, l, h.keeps.states); odd = sym e ∙ d; first = h.sorted }
 
-pub few_step : (q r : Partition) (x s : ℕ) (row : List Bool) → Few q → Parted q r x s row → Few r
-few_step q r x s row f d = omega (arith, f, d.count, d.nodes)
+-- From p to r the states below i were scanned, and the test stands where `name` says.
+pub record Splitting (p r : Partition) (test : Node) (row : List Bool) (name : Option ℕ) (i : ℕ) : Type 0 where
+  pub scanned : Scanned p r (own p test) row i
+  pub ready : Ready r.questions (vec_items r.nodes.list) test name
+  pub same : told (vec_items r.nodes.list) test name ≡ own p test
+
+pub splitting_none : (p : Partition) (test : Node) (row : List Bool) → Ready p.questions (vec_items p.nodes.list) test None → Splitting p p test row None 0
+splitting_none p test row h = record { scanned = scanned_none p (own p test) row; ready = h; same = refl }
+
+pub splitting_skip : (p q : Partition) (test : Node) (row : List Bool) (name : Option ℕ) (i : ℕ) → Splitting p q test row name i
+    → beq (at row (class_of q i)) (at row i) ≡ true → Splitting p q test row name (i + 1)
+splitting_skip p q test row name i h e = record { scanned = scanned_skip p q (own p test) row i h.scanned e; ready = h.ready; same = h.same }
+
+pub splitting_step : (p q r : Partition) (test : Node) (row : List Bool) (name : Option ℕ) (x i : ℕ) → Splitting p q test row name i → Odd q i row
+    → Parted q r (told (vec_items q.nodes.list) test name) i row → Names (vec_items r.nodes.list) x (told (vec_items q.nodes.list) test name)
+    → Splitting p r test row (Some x) (i + 1)
+splitting_step p q r test row name x i h o d n = record {
+  scanned = scanned_step p q r (own p test) row i h.scanned o (subst (λ (f : Formula). Parted q r f i row) h.same d);
+  ready = ready r.questions (vec_items r.nodes.list) test x _ n;
+  same = n.yes ∙ h.same;
+}
+
+-- All states scanned: every class was split.
+pub divided : (p q : Partition) (test : Node) (row : List Bool) (i : ℕ) → p.states ≤ i → Scanned p q (own p test) row i → Divided p q test row
+divided p q test row i all h = record {
+  keeps = h.keeps;
+  classes = λ s t hs ht. (
+    λ e. (h.finer s t hs ht e, sym (h.sorted s (omega (arith, all, hs))) ∙ ap (λ (c : ℕ). at row c) e ∙ h.sorted t (omega (arith, all, ht))),
+    λ e. h.kept s t hs ht e.0 e.1,
+  );
+  exact = h.exact;
+  shallow = h.shallow;
+}
 
 -- There are no more classes than states.
 pub count_le : (p : Partition) → p.count ≤ p.states

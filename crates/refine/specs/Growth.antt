@@ -1,5 +1,5 @@
 -- Tables of next-only nodes that grow at their end, and valuations of formulas at numbered states.
-use Rattle.std.specs.Prelude.{◌≡◌, ℕ, suc, ◌+◌, ◌<◌, ◌≤◌, Bool, true, false, cond, not, ◌&&◌, T, List, length, ◌==◌, nat_lt, slice_index_or}
+use Rattle.std.specs.Prelude.{◌≡◌, ℕ, suc, ◌+◌, ◌<◌, ◌≤◌, Bool, true, false, cond, not, ◌&&◌, T, List, length, ◌==◌, nat_lt, slice_index_or, Option, Some, None}
 use Rattle.kripke.specs.Ctl.{Formula, truth, and, nesting}
 use Rattle.kripke.specs.Nodes.{made, formulas, formula, blank}
 use Rattle.kripke.specs.declared.node.Node.{Node}
@@ -27,14 +27,28 @@ pub record Boolean (v : Formula → ℕ → Bool) : Type 0 where
   pub negates : (f : Formula) (s : ℕ) → v (Formula.not f) s ≡ not (v f s)
   pub joins : (f g : Formula) (s : ℕ) → v (and f g) s ≡ (v f s && v g s)
 
--- A test and its negation stand at r and after it.
-pub record Begun (ns ms : List Node) (test : Node) (r : ℕ) : Type 0 where
+-- The formula f stands at node x, and its negation after it.
+pub record Names (ns : List Node) (x : ℕ) (f : Formula) : Type 0 where
+  pub inside : suc x < length ns
+  pub yes : formula ns x ≡ f
+  pub no : formula ns (suc x) ≡ Formula.not f
+
+-- The formula of a test: that of the node where it stands, else its own.
+abbrev pub told : List Node → Node → Option ℕ → Formula
+told ns test None = made (formulas ns) test
+told ns test (Some x) = formula ns x
+
+-- The test stands at a node, or is in order as the next one.
+abbrev pub Ready : ℕ → List Node → Node → Option ℕ → Type 0
+Ready q ns test None = T (next_node q (length ns) test)
+Ready q ns test (Some x) = Names ns x (formula ns x)
+
+-- The test stands at r, with its negation after it.
+pub record Named (ns ms : List Node) (test : Node) (known : Option ℕ) (r : ℕ) : Type 0 where
   pub extends : Extends ns ms
-  pub count : length ms ≡ length ns + 2
-  pub inside : suc r < length ms
-  pub yes : formula ms r ≡ made (formulas ns) test
-  pub no : formula ms (suc r) ≡ Formula.not (made (formulas ns) test)
-  pub orderly : (q : ℕ) → T (next_node q (length ns) test) → Orderly q ns → Orderly q ms
+  pub count : length ms ≤ length ns + 2
+  pub names : Names ms r (told ns test known)
+  pub orderly : (q : ℕ) → Ready q ns test known → Orderly q ns → Orderly q ms
 
 -- The conjunction of nodes a and b stands at r.
 pub record Conjoined (ns ms : List Node) (a b r : ℕ) : Type 0 where

@@ -5,7 +5,7 @@ use Rattle.kripke.specs.Ctl.{Formula}
 use Rattle.kripke.specs.Classes.{Alike, Refined}
 use Rattle.refine.specs.Growth.{Boolean}
 use Rattle.refine.specs.Tests.{test, hits}
-use Rattle.refine.specs.Steps.{class_of, Exact, Shallow, Few, Keeps, Divided}
+use Rattle.refine.specs.Steps.{class_of, Exact, Shallow, Keeps, Divided}
 use Rattle.refine.specs.Pairs.{first_of, second_of, both_of}
 use Rattle.refine.specs.declared.pair.Pair.{Pair}
 use Rattle.kripke.specs.Rounds.{total}
@@ -16,7 +16,6 @@ pub record One (states questions : ℕ) (p : Partition) : Type 0 where
   pub states_is : p.states ≡ states
   pub questions_is : p.questions ≡ questions
   pub class : (s : ℕ) → class_of p s ≡ 0
-  pub few : Few p
   pub exact : (v : Formula → ℕ → Bool) → Boolean v → Exact v p
   pub shallow : Shallow 0 p
 

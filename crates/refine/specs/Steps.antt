@@ -1,5 +1,5 @@
 -- What one split does to a partition.
-use Rattle.std.specs.Prelude.{◌≡◌, ℕ, suc, ◌+◌, ◌*◌, ◌<◌, ◌≤◌, Bool, false, cond, not, ◌&&◌, ◌↔◌, List, length, vec_items, ◌==◌, slice_index, slice_index_or}
+use Rattle.std.specs.Prelude.{◌≡◌, ℕ, suc, ◌<◌, ◌≤◌, Bool, false, cond, ◌&&◌, ◌↔◌, List, vec_items, ◌==◌, slice_index, slice_index_or}
 use Rattle.std.specs.Bool.{beq}
 use Rattle.kripke.specs.Ctl.{Formula, nesting}
 use Rattle.kripke.specs.Nodes.{made, formulas, formula}
@@ -29,18 +29,17 @@ Exact v p = (t s : ℕ) → t < p.states → s < p.states → v (class_formula p
 abbrev pub Shallow : ℕ → Partition → Type 0
 Shallow d p = (t : ℕ) → t < p.states → nesting (class_formula p t) ≤ d
 
--- At most 1 + 4 (classes - 1) nodes.
-abbrev pub Few : Partition → Type 0
-Few p = length (vec_items p.nodes.list) + 3 ≤ 4 * p.count
-
 -- The number of t once the states of class c that agree with s on the row have the number s.
 abbrev pub moved : List ℕ → List Bool → ℕ → ℕ → ℕ → ℕ
 moved class row c s t = cond (slice_index class t == c && beq (at row t) (at row s)) s (slice_index class t)
 
--- Node x holds where the row says yes, and the node after it where it says no.
-pub record Stands (v : Formula → ℕ → Bool) (p : Partition) (x : ℕ) (row : List Bool) : Type 0 where
-  pub yes : (t : ℕ) → t < p.states → v (node_formula p x) t ≡ at row t
-  pub no : (t : ℕ) → t < p.states → v (node_formula p (suc x)) t ≡ not (at row t)
+-- The formula of a test that the partition's nodes do not have yet.
+abbrev pub own : Partition → Node → Formula
+own p test = made (formulas (vec_items p.nodes.list)) test
+
+-- The formula holds where the row says yes.
+abbrev pub Tells : (Formula → ℕ → Bool) → Partition → Formula → List Bool → Type 0
+Tells v p f row = (t : ℕ) → t < p.states → v f t ≡ at row t
 
 -- s is the first state whose class's least state is on the other side of the row.
 pub record Odd (p : Partition) (s : ℕ) (row : List Bool) : Type 0 where
@@ -56,27 +55,26 @@ pub record Keeps (p q : Partition) : Type 0 where
   pub more : p.count ≤ q.count
   pub still : q.count ≤ p.count → q.class ≡ p.class
 
--- The class of s was parted by the row: its members that agree with s have the number s.
-pub record Parted (p q : Partition) (x s : ℕ) (row : List Bool) : Type 0 where
+-- The class of s was parted by the row: its members that agree with s have the number s. The formula f, true where the row says yes, is all that the new formulas needed.
+pub record Parted (p q : Partition) (f : Formula) (s : ℕ) (row : List Bool) : Type 0 where
   pub keeps : Keeps p q
-  pub nodes : length (vec_items q.nodes.list) ≤ length (vec_items p.nodes.list) + 2
   pub count : q.count ≡ suc p.count
   pub class : (t : ℕ) → t < p.states → class_of q t ≡ moved p.class row (class_of p s) s t
-  pub exact : (v : Formula → ℕ → Bool) → Boolean v → Stands v p x row → Exact v p → Exact v q
-  pub shallow : (d : ℕ) → nesting (node_formula p x) ≤ d → nesting (node_formula p (suc x)) ≤ d → Shallow d p → Shallow d q
+  pub exact : (v : Formula → ℕ → Bool) → Boolean v → Tells v p f row → Exact v p → Exact v q
+  pub shallow : (d : ℕ) → nesting f ≤ d → Shallow d p → Shallow d q
 
 -- From p to q classes were parted by the row only, and the states below i agree with the least of their class.
-pub record Scanned (p q : Partition) (x : ℕ) (row : List Bool) (i : ℕ) : Type 0 where
+pub record Scanned (p q : Partition) (f : Formula) (row : List Bool) (i : ℕ) : Type 0 where
   pub keeps : Keeps p q
   pub finer : (s t : ℕ) → s < p.states → t < p.states → Alike q.class s t → Alike p.class s t
   pub kept : (s t : ℕ) → s < p.states → t < p.states → Alike p.class s t → at row s ≡ at row t → Alike q.class s t
   pub sorted : (t : ℕ) → t < i → at row (class_of q t) ≡ at row t
-  pub exact : (v : Formula → ℕ → Bool) → Boolean v → Stands v p x row → Exact v p → Exact v q
-  pub shallow : (d : ℕ) → nesting (node_formula p x) ≤ d → nesting (node_formula p (suc x)) ≤ d → Shallow d p → Shallow d q
+  pub exact : (v : Formula → ℕ → Bool) → Boolean v → Tells v p f row → Exact v p → Exact v q
+  pub shallow : (d : ℕ) → nesting f ≤ d → Shallow d p → Shallow d q
 
 -- Every class was split by the row: the formula of the test, true where the row says yes, is all that the new classes' formulas needed.
 pub record Divided (p q : Partition) (test : Node) (row : List Bool) : Type 0 where
   pub keeps : Keeps p q
   pub classes : (s t : ℕ) → s < p.states → t < p.states → Alike q.class s t ↔ (Alike p.class s t × (at row s ≡ at row t))
-  pub exact : (v : Formula → ℕ → Bool) → Boolean v → ((t : ℕ) → t < p.states → v (made (formulas (vec_items p.nodes.list)) test) t ≡ at row t) → Exact v p → Exact v q
-  pub shallow : (d : ℕ) → nesting (made (formulas (vec_items p.nodes.list)) test) ≤ d → Shallow d p → Shallow d q
+  pub exact : (v : Formula → ℕ → Bool) → Boolean v → Tells v p (own p test) row → Exact v p → Exact v q
+  pub shallow : (d : ℕ) → nesting (own p test) ≤ d → Shallow d p → Shallow d q

@@ -1,5 +1,6 @@
-ghost use Rattle.std.specs.Prelude.{◌+◌, ◌<◌, ◌≤◌, length};
-ghost use Rattle.refine.specs.Growth.{Begun, Conjoined};
+ghost use Rattle.std.specs.Prelude.{◌+◌, ◌<◌, ◌≤◌, length, None, MatchOption};
+ghost use Rattle.kripke.specs.Nodes.{formula};
+ghost use Rattle.refine.specs.Growth.{Conjoined, Named, Names};
 
 use crate::nodes::Nodes;
 use kripke::node::Node;
@@ -7,14 +8,26 @@ use kripke::operator::Operator;
 
 impl Nodes {
     // Adds the test and its negation; the number of the test.
-    pub(crate) fn begin(&mut self, test: Node) -> u16
-        requires few { length self.old.list.items + 2 ≤ 2048 }
-        ensures { Begun self.old.list.items self.new.list.items test result }
+    fn begin(&mut self, test: Node) -> u16
+        requires { length self.old.list.items + 2 ≤ 2048 }
+        ensures { Named self.old.list.items self.new.list.items test None result }
     {
         let x = self.list.len() as u16;
         self.list.push_reserved(test);
         self.list.push_reserved(Node::new(Operator::Not, x, 0));
         x
+    }
+
+    // The number of the test: the one that is known, else it is added, with its negation.
+    pub(crate) fn name(&mut self, test: Node, known: Option<u16>) -> u16
+        requires few { length self.old.list.items + 2 ≤ 2048 }
+        requires known { MatchOption known (Unit {0}) (λ x. let ns = self.old.list.items in Names ns x (formula ns x)) }
+        ensures { Named self.old.list.items self.new.list.items test known result }
+    {
+        match known {
+            Some(x) => x,
+            None => self.begin(test),
+        }
     }
 
     // The number of a node for `a and b`: b itself where a is `true`, else a new one.

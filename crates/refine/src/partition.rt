@@ -1,4 +1,4 @@
-ghost use Rattle.std.specs.Prelude.{◌≡◌, ◌≤◌};
+ghost use Rattle.std.specs.Prelude.{◌≡◌, ◌+◌, ◌*◌, ◌≤◌, length};
 ghost use Rattle.kripke.specs.Classes.{Led, Low};
 ghost use Rattle.refine.specs.Classes.{Here, leaders};
 ghost use Rattle.refine.specs.Growth.{Orderly};
@@ -17,6 +17,8 @@ pub struct Partition {
     // How many classes there are.
     pub count: u16,
     ghost few: { states ≤ 512 },
+    // At most four nodes for each class but the first, and one.
+    ghost spare: { length nodes.list.items + 3 ≤ 4 * count },
     ghost low: { Low states class },
     ghost led: { Led states class },
     ghost here: { Here states class node nodes.list.items },

@@ -3,7 +3,7 @@ ghost use Rattle.kripke.specs.Classes.{Numbered};
 ghost use Rattle.kripke.specs.Rounds.{total};
 ghost use Rattle.refine.specs.Pairs.{both_of, first_of, second_of};
 ghost use Rattle.refine.specs.Stages.{Told, rested};
-ghost use Rattle.refine.specs.Steps.{Few, Shallow};
+ghost use Rattle.refine.specs.Steps.{Shallow};
 
 use crate::pair::Pair;
 use crate::partition::Partition;
@@ -18,7 +18,6 @@ pub struct Refinement {
     pub rests: bool,
     ghost long: { parts.states ≡ total (first_of pair) (second_of pair) },
     ghost asks: { parts.questions ≡ pair.first.questions },
-    ghost few: { Few parts },
     ghost told: { Told (both_of pair) parts },
     ghost shallow: { Shallow rounds parts },
     ghost numbered: { Numbered (first_of pair) (second_of pair) rounds parts.class },

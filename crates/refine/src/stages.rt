@@ -38,7 +38,9 @@ impl Refinement {
         ensures pair { self.new.pair ≡ self.old.pair }
         ensures rounds { self.new.rounds ≡ suc self.old.rounds }
     {
-        self.rests = self.parts.round(&self.pair);
+        let before = self.parts.count;
+        self.parts.round(&self.pair);
+        self.rests = self.parts.count == before;
         self.rounds += 1;
     }
 

@@ -11,6 +11,7 @@ invariant_of-result c =
     let e : ns ≡ [] ++ blank ∷ [] = c.push_reserved.ensures.items ∙ ap (λ (n : Node). vec_items c.in_ok-nodes.nodes.list ++ n ∷ []) c.new.ensures ∙ ap (λ (l : List Node). l ++ blank ∷ []) c.in_ok-nodes.ensures in
     record {
       few = c.requires.few;
+      spare = omega (arith, one_long z z (zeros 512) (zeros 512) ns e);
       low = one_low z z (zeros 512) (zeros 512) ns e c.args.states;
       led = one_led z z (zeros 512) (zeros 512) ns e c.args.states;
       here = one_here z z (zeros 512) (zeros 512) ns e c.args.states;
@@ -27,7 +28,6 @@ returns c =
       states_is = refl;
       questions_is = refl;
       class = zeros 512;
-      few = omega (arith, one_long z z (zeros 512) (zeros 512) ns e);
       exact = λ v b t s ht hs. one_exact z z (zeros 512) (zeros 512) ns e v b t s;
       shallow = λ t ht. one_shallow z z (zeros 512) (zeros 512) ns e t;
     }

@@ -20,17 +20,15 @@ invariant_of-result g c =
     let o : Partition = c.in_ok-parts.parts in
     let p : Partition = c.ask_all.new.self in
     let one = c.in_ok-parts.ensures in
-    let ask = c.ask_all.ensures.asked in
-    let few = c.ask_all.ensures.few in
+    let ask = c.ask_all.ensures in
     let level : s.questions ≡ f.questions = c.in_ok-second.ensures.questions ∙ sym c.in_ok-first.ensures.questions in
     let law : Lawful q b = subst (λ (n : ℕ). Lawful n b) level (table_lawful s) in
     record {
       long = ask.keeps.states ∙ one.states_is ∙ c.states.ensures.value;
       asks = ask.keeps.questions ∙ one.questions_is;
-      few = few;
       told = exact_told (both a b) p (ask.exact (one.exact (test (both a b)) (test_boolean (both a b))));
       shallow = ask.shallow 0 one.shallow;
       numbered = opening_numbered q a b (table_lawful f) law c.states.result o p c.states.ensures.value one ask;
       last = refl;
-      pace = omega (arith, few);
+      pace = omega (arith, p.spare);
     }

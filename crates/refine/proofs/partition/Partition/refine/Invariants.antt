@@ -1,7 +1,0 @@
-use Rattle.refine.specs.Pairs.{both_of}
-use Rattle.refine.specs.Steps.{Few}
-use Rattle.refine.specs.Rounding.{Refining}
-use Rattle.refine.proofs.partition.Partition.refine.Given as goal
-
-abbrev pub invariant-loop-c : goal.invariant-loop-c
-invariant-loop-c l = Refining (both_of l.pair) l.initial.self l.self l.c × Few l.self
