@@ -59,14 +59,16 @@ module _ (r : Refinement) where
       (λ t. (together-T (first r) (second r) r.rounds one (size (first r) + r.pair.second.initial)).1
       (c.0 ((same-T (first r) (second r) r.rounds one r.pair.second.initial).0 t)))
 
+  pub level_at : (x y : ℕ) → x ≡ class_of r.parts (first r).initial → y ≡ class_of r.parts (size (first r) + (second r).initial)
+      → level (first r) (second r) r.rounds ≡ eqb x y
+  level_at x y d e =
+      sym (ap (λ (z : ℕ). eqb z y) d ∙ ap (λ (z : ℕ). eqb (class_of r.parts one) z) (e ∙ ap (λ (s : ℕ). class_of r.parts (s + (second r).initial)) first_size) ∙ level_is)
+
   pub total_few : total (first r) (second r) ≤ 512
   total_few = omega (arith, r.long, r.parts.few)
 
   pub nodes_few : length (vec_items r.parts.nodes.list) + 3 ≤ 4 * total (first r) (second r)
-  nodes_few = omega (arith, r.few, count_le r.parts, r.long)
-
-  pub nodes_fit : length (vec_items r.parts.nodes.list) ≤ 2045
-  nodes_fit = omega (arith, r.few, count_le r.parts, r.parts.few)
+  nodes_few = omega (arith, r.parts.spare, count_le r.parts, r.long)
 
   pub kept_none : level (first r) (second r) r.rounds ≡ true → (ns : List Node) → ns ≡ [] → Kept r ns
   kept_none e ns z = subst (λ (l : List Node). Kept r l) (sym z) (record {

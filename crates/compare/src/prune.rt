@@ -52,9 +52,9 @@ fn place(operand: Option<u16>, to: &[u16; 2048]) -> Option<u16>
 }
 
 // Which nodes the root reaches. What a node names is earlier, so one way down does.
+#[tactic(auto, using(crate::proofs::Renames::nodes_fit))]
 fn reach(parts: &Partition, root: usize) -> [bool; 2048]
-    requires few { length parts.now.nodes.list.items ≤ 2045 }
-    requires inside { root < length parts.now.nodes.list.items }
+    requires { root < length parts.now.nodes.list.items }
     ensures { Marking parts.now.nodes.list.items root 0 result }
 {
     let mut reached = [false; 2048];
@@ -70,8 +70,8 @@ fn reach(parts: &Partition, root: usize) -> [bool; 2048]
 }
 
 // Copies the marked nodes up to the root, renumbered.
+#[tactic(auto, using(crate::proofs::Renames::nodes_fit))]
 fn copy(parts: &Partition, root: usize, reached: &[bool; 2048], out: &mut Nodes)
-    requires few { length parts.now.nodes.list.items ≤ 2045 }
     requires inside { root < length parts.now.nodes.list.items }
     requires marked { Marking parts.now.nodes.list.items root 0 reached.now }
     requires empty { out.old.list.items ≡ [] }
@@ -89,7 +89,6 @@ fn copy(parts: &Partition, root: usize, reached: &[bool; 2048], out: &mut Nodes)
 
 // The nodes that the root reaches, in their order, renumbered.
 pub(crate) fn prune(parts: &Partition, root: usize, out: &mut Nodes)
-    requires few { length parts.now.nodes.list.items ≤ 2045 }
     requires inside { root < length parts.now.nodes.list.items }
     requires empty { out.old.list.items ≡ [] }
     ensures { Pruned parts.now.questions parts.now.nodes.list.items root out.new.list.items }

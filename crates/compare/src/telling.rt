@@ -36,6 +36,10 @@ pub(crate) fn keep(stages: &Refinement, formula: &mut Nodes)
     formula.list.clear();
     let (one, other) = initial_classes(stages);
     if one != other {
-        prune(&stages.parts, stages.parts.node[one as usize] as usize, formula);
+        prune(
+            &stages.parts,
+            stages.parts.node[one as usize] as usize,
+            formula,
+        );
     }
 }

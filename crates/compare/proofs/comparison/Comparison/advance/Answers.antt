@@ -8,7 +8,7 @@ use Rattle.refine.specs.Pairs.{first_of, second_of}
 use Rattle.compare.specs.Closing.{closed}
 use Rattle.compare.specs.Calls.{first, second, questions, rounds}
 use Rattle.compare.proofs.Levels.{first_lawful, second_lawful}
-use Rattle.compare.proofs.Rulings.{Fresh, fresh_more, open_soon}
+use Rattle.compare.proofs.Rulings.{Fresh, open_test, fresh_more, open_soon}
 use Rattle.compare.proofs.comparison.Comparison.advance.Goals as goal
 
 -- A round of an open refinement is a round more.
@@ -30,12 +30,11 @@ counted r s n d w =
 pub invariant_of-self : goal.invariant_of-self
 invariant_of-self c =
     let s = c.args.self.now in
-    let e = c.requires in
+    let e = open_test (first s) (second s) (rounds s) c.requires in
     let w = went s.stages c.round-count.new.self c.round-count.result c.round-count.ensures e in
-    let k = c.keep.ensures.kept in
+    let k = c.keep.ensures in
     record {
       «open» = fresh s.stages c.round-count.new.self w e s.open;
-      room = c.keep.ensures.room;
       few = k.few;
       orderly = k.orderly;
       useful = λ i l. ∣ k.useful i l ∣₁;
@@ -45,7 +44,7 @@ invariant_of-self c =
 pub returns : goal.returns
 returns c =
     let s = c.args.self.now in
-    let e = c.requires in
+    let e = open_test (first s) (second s) (rounds s) c.requires in
     let w = went s.stages c.round-count.new.self c.round-count.result c.round-count.ensures e in
     record {
       same = record { first_is = ap first_of w.0; second_is = ap second_of w.0; questions_is = ap (λ (p : Pair). p.first.questions) w.0 };

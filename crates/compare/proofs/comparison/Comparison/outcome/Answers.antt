@@ -9,12 +9,12 @@ returns-then-differs c =
     let s = c.args.self.now in
     different_T (first s) (second s) (rounds s) (not-true _ (sym c.differs.ensures ∙ c.if-differs.true))
 
-pub returns-then-rests : goal.returns-then-rests
-returns-then-rests c =
+pub returns-then-self : goal.returns-then-self
+returns-then-self c =
     let s = c.args.self.now in
-    alike_T (first s) (second s) (rounds s) (not-false _ (sym c.differs.ensures ∙ c.if-differs.false)) (sym s.stages.last ∙ c.if-rests.true)
+    alike_T (first s) (second s) (rounds s) (not-false _ (sym c.differs.ensures ∙ c.if-differs.false)) (sym s.stages.last ∙ c.if-self.true)
 
-pub returns-else-rests : goal.returns-else-rests
-returns-else-rests c =
+pub returns-else-self : goal.returns-else-self
+returns-else-self c =
     let s = c.args.self.now in
-    reached_none (first s) (second s) (rounds s) (not-false _ (sym c.differs.ensures ∙ c.if-differs.false)) (sym s.stages.last ∙ c.if-rests.false)
+    reached_none (first s) (second s) (rounds s) (not-false _ (sym c.differs.ensures ∙ c.if-differs.false)) (sym s.stages.last ∙ c.if-self.false)

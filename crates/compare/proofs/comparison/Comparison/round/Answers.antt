@@ -1,3 +1,4 @@
+use Rattle.std.proofs.Common.{refl}
 use Rattle.compare.specs.Calls.{first, second, rounds}
 use Rattle.compare.proofs.Rulings.{reached_closed, round_refused, round_clean}
 use Rattle.compare.proofs.comparison.Comparison.round.Goals as goal

@@ -1,10 +1,6 @@
-use Rattle.std.proofs.Common.{◌+◌, ◌*◌, ◌≤◌, sym, subst, arith}
+use Rattle.std.proofs.Common.{◌+◌, ◌*◌, ◌≤◌, arith}
 use Rattle.std.proofs.lemmas.Result.{err_from_is_err_and}
-use Rattle.kripke.specs.Refusals.{First}
 use Rattle.kripke.specs.Rounds.{total}
-use Rattle.kripke.specs.declared.refusal.Refusal.{Refusal}
-use Rattle.kripke.specs.declared.refusal.Layer.TheVariants as layer
-use Rattle.compare.specs.Breaches.{FormulaBreach}
 use Rattle.compare.specs.Calls.{first, second, rounds}
 use Rattle.compare.proofs.Rulings.{formula_refused, places_refused, formula_clean}
 use Rattle.compare.proofs.comparison.Comparison.told.Goals as goal
@@ -18,14 +14,13 @@ returns-in_err-nodes c =
 pub returns-then-places-enough : goal.returns-then-places-enough
 returns-then-places-enough c =
     let s = c.args.self.now in (
-      subst (λ (z : Refusal). First (FormulaBreach (first s) (second s) (rounds s) c.args.places) layer.Comparison z) (sym c.refusal.ensures)
-          (places_refused (first s) (second s) (rounds s) c.args.places c.in_ok-nodes.ensures.0 (omega (arith, c.if-places-enough.true, c.enough.ensures, s.stages.long))),
+      places_refused (first s) (second s) (rounds s) c.args.places c.in_ok-nodes.ensures.0 (omega (arith, c.if-places-enough.true, c.enough.ensures)) _ c.refusal.ensures,
       tt,
     )
 
 pub returns : goal.returns
 returns c =
     let s = c.args.self.now in
-    let l : 4 * total (first s) (second s) ≤ c.args.places + 3 = omega (arith, c.if-places-enough.false, c.enough.ensures, s.stages.long) in
+    let l : 4 * total (first s) (second s) ≤ c.args.places + 3 = omega (arith, c.if-places-enough.false, c.enough.ensures) in
     let h = c.in_ok-nodes.ensures in
     (formula_clean (first s) (second s) (rounds s) c.args.places h.0 l, (h.1, omega (arith, l, h.1.separating.few)))
