@@ -22,6 +22,7 @@ use Rattle.refine.proofs.Staging.{told_exact}
 use Rattle.compare.specs.Closing.{level, tells}
 use Rattle.compare.specs.Pruned.{Pruned}
 use Rattle.compare.specs.Kept.{Kept}
+use Rattle.compare.proofs.Rulings.{same_of}
 
 module _ (r : Refinement) where
   pub first_lawful : Lawful (questions r) (first r)
@@ -75,7 +76,7 @@ module _ (r : Refinement) where
     few = omega (arith, first_lawful.some);
     orderly = λ i l. absurd (omega arith);
     useful = λ i l. absurd (omega arith);
-    telling = subst T (sym (ap (λ b. b || tells (first r) (second r) r.rounds []) e)) tt;
+    telling = λ d. absurd (d (same_of (first r) (second r) r.rounds e));
   })
 
   module _ (e : level (first r) (second r) r.rounds ≡ false) (ns : List Node)
@@ -101,9 +102,8 @@ module _ (r : Refinement) where
     kept_some = record {
       few = omega (arith, h.few, nodes_few, r.parts.here one one_in);
       orderly = h.orderly;
-      useful = h.useful;
-      telling = subst (λ b. T (b || tells (first r) (second r) r.rounds ns)) (sym e)
-          (T_and _ _
+      useful = λ i l. ∣ h.useful i l ∣₁;
+      telling = λ d. T_and _ _
           (T_and _ _ (yes-T _ (lt-ltb 0 (length ns) h.some)) (yes-T _ (le-leb _ _ (subst (λ (f : Formula). nesting f ≤ r.rounds) (sym same_root) (r.shallow one one_in)))))
-          (T_and _ _ (yes-T _ at_one) (yes-T _ (ap not at_other))));
+          (T_and _ _ (yes-T _ at_one) (yes-T _ (ap not at_other)));
     }

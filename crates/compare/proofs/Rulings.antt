@@ -1,4 +1,4 @@
--- The closing rule as a test, and what follows from it for the calls.
+-- What follows from the closing rule for the calls.
 use Rattle.std.proofs.Common.{◌≡◌, ℕ, zero, suc, ◌+◌, ◌*◌, ◌<◌, ◌≤◌, Bool, true, false, not, ◌||◌, T, Some, None, sym, refl, ap, ◌∙◌, subst, inl, inr, arith}
 use native.Mathlib.Decide.{ℕ_discrete}
 use Rattle.kripke.specs.Structure.{Kripke, Lawful}
@@ -8,10 +8,10 @@ use Rattle.kripke.specs.declared.refusal.Cause.{Cause}
 use Rattle.kripke.specs.declared.refusal.Cause.TheVariants.{ClosedComparison, StateNumber, OpenComparison, NotDifferent, FewPlaces}
 use Rattle.kripke.specs.declared.refusal.Layer.TheVariants as layer
 use Rattle.kripke.specs.declared.refusal.Refusal.{Refusal}
-use Rattle.kripke.proofs.Reflect.{same-T, settled-T, or_T}
+use Rattle.kripke.proofs.Reflect.{same-T, settled-T}
 use Rattle.kripke.proofs.Closing.{still_open, alike_agree, different_separated}
 use Rattle.refine.specs.Stages.{rested}
-use Rattle.compare.specs.Closing.{level, closed, Reached}
+use Rattle.compare.specs.Closing.{level, Reached}
 use Rattle.compare.specs.Breaches as breach
 use Rattle.compare.specs.Breaches.{RoundBreach, ClassBreach, VerdictBreach, TableBreach, FormulaBreach, beyond, unclosed, undivided, no_difference, few}
 use Rattle.compare.specs.Answers.{Decides}
@@ -21,10 +21,6 @@ use Rattle.compare.specs.declared.verdict.Outcome.TheVariants.{Alike, Different}
 pub not_T : (b : Bool) → T (not b) → T b → ⊥
 not_T true h t = h
 not_T false h t = t
-
-pub T_not : (b : Bool) → (T b → ⊥) → T (not b)
-T_not true h = h tt
-T_not false h = tt
 
 pub no_T : (b : Bool) → b ≡ false → T b → ⊥
 no_T b e t = subst T e t
@@ -44,54 +40,40 @@ rested-T : (a b : Kripke) (k : ℕ) → ClosedAlike a b k → T (rested a b k)
 rested-T a b zero z = absurd z
 rested-T a b (suc k) z = (settled-T a b k).1 z.0
 
--- The test answers yes exactly when the comparison is closed.
-pub closed_of : (a b : Kripke) (k : ℕ) → T (closed a b k) → ClosedAfter a b k
-closed_of a b k h = go (level a b k) (rested a b k) refl refl h
+-- An open comparison: its last round split something, if there was one.
+pub open_moves : (a b : Kripke) (k : ℕ) → (ClosedAfter a b k → ⊥) → rested a b k ≡ false
+open_moves a b k h = go (level a b k) (rested a b k) refl refl
   where
-    go : (l r : Bool) → level a b k ≡ l → rested a b k ≡ r → T (not l || r) → ClosedAfter a b k
-    go false r e f h = inl (different_T a b k e)
-    go true true e f h = inr (alike_T a b k e f)
-    go true false e f h = absurd h
+    go : (l r : Bool) → level a b k ≡ l → rested a b k ≡ r → rested a b k ≡ false
+    go l false e f = f
+    go false true e f = absurd (h (inl (different_T a b k e)))
+    go true true e f = absurd (h (inr (alike_T a b k e f)))
 
-pub closed_to : (a b : Kripke) (k : ℕ) → ClosedAfter a b k → T (closed a b k)
-closed_to a b k (inl d) = (or_T (not (level a b k)) (rested a b k)).1 (inl (T_not _ (λ t. d ((same-T a b k a.initial b.initial).0 t))))
-closed_to a b k (inr z) = (or_T (not (level a b k)) (rested a b k)).1 (inr (rested-T a b k z))
+pub reached_none : (a b : Kripke) (k : ℕ) → level a b k ≡ true → rested a b k ≡ false → Reached a b k None
+reached_none a b k e f (inl d) = d (same_of a b k e)
+reached_none a b k e f (inr z) = no_T _ f (rested-T a b k z)
 
 -- Open after every number of rounds below k.
 abbrev pub Fresh : Kripke → Kripke → ℕ → Type 0
-Fresh a b k = (j : ℕ) → j < k → T (not (closed a b j))
+Fresh a b k = (j : ℕ) → j < k → ClosedAfter a b j → ⊥
 
-pub fresh_more : (a b : Kripke) (k : ℕ) → Fresh a b k → closed a b k ≡ false → Fresh a b (suc k)
+pub fresh_more : (a b : Kripke) (k : ℕ) → Fresh a b k → (ClosedAfter a b k → ⊥) → Fresh a b (suc k)
 fresh_more a b k h e j l = elim (ℕ_discrete j k) [
-  | yes z ↦ subst (λ (i : ℕ). T (not (closed a b i))) (sym z) (T_not _ (no_T _ e))
+  | yes z ↦ subst (λ (i : ℕ). ClosedAfter a b i → ⊥) (sym z) e
   | no z ↦ h j (omega arith)
 ]
 
--- The tests of an open comparison.
-pub open_test : (a b : Kripke) (k : ℕ) → (ClosedAfter a b k → ⊥) → closed a b k ≡ false
-open_test a b k h = go (closed a b k) refl
-  where
-    go : (c : Bool) → closed a b k ≡ c → closed a b k ≡ false
-    go false e = e
-    go true e = absurd (h (closed_of a b k (subst T (sym e) tt)))
-
-pub reached_none : (a b : Kripke) (k : ℕ) → level a b k ≡ true → rested a b k ≡ false → Reached a b k None
-reached_none a b k e f z = no_T (closed a b k) (ap (λ l. not l || rested a b k) e ∙ f) (closed_to a b k z)
-
-pub fresh_closed : (a b : Kripke) (k : ℕ) → Fresh a b k → (j : ℕ) → j < k → ClosedAfter a b j → ⊥
-fresh_closed a b k h j l z = not_T _ (h j l) (closed_to a b j z)
-
 module _ (q : ℕ) (a b : Kripke) (la : Lawful q a) (lb : Lawful q b) where
   -- An open comparison has had fewer rounds than there are states, and so any one no more.
-  pub open_soon : (k : ℕ) → Fresh a b k → closed a b k ≡ false → suc k ≤ total a b
-  open_soon k h e = still_open q a b la lb k (λ j l. fresh_closed a b (suc k) (fresh_more a b k h e) j (omega arith))
+  pub open_soon : (k : ℕ) → Fresh a b k → (ClosedAfter a b k → ⊥) → suc k ≤ total a b
+  open_soon k h e = still_open q a b la lb k (λ j l. fresh_more a b k h e j (omega arith))
 
   pub fresh_soon : (k : ℕ) → Fresh a b k → k ≤ total a b
   fresh_soon zero h = omega arith
-  fresh_soon (suc k) h = still_open q a b la lb k (λ j l. fresh_closed a b (suc k) h j (omega arith))
+  fresh_soon (suc k) h = still_open q a b la lb k (λ j l. h j (omega arith))
 
   pub first_different : (k : ℕ) → Fresh a b k → ClosedDifferent a b k → FirstClosed a b k
-  first_different k h d = (inl d, fresh_closed a b k h)
+  first_different k h d = (inl d, h)
 
   decides_different : (k : ℕ) → Fresh a b k → ClosedDifferent a b k → Decides a b k (record { rounds = k; outcome = Different })
   decides_different k h d =

@@ -1,5 +1,5 @@
--- The closing rule as a test, and what a kept formula has to tell.
-use Rattle.std.specs.Prelude.{ℕ, ◌+◌, Bool, not, ◌&&◌, ◌||◌, List, length, nat_le, nat_lt, Some, None, Option}
+-- The closing rule, and what a kept formula has to tell.
+use Rattle.std.specs.Prelude.{ℕ, ◌+◌, Bool, not, ◌&&◌, List, length, nat_le, nat_lt, Some, None, Option}
 use Rattle.kripke.specs.Structure.{Kripke, size}
 use Rattle.kripke.specs.Ctl.{nesting}
 use Rattle.kripke.specs.Nodes.{root}
@@ -8,16 +8,12 @@ use Rattle.kripke.specs.Tests.{same}
 use Rattle.kripke.specs.Union.{both}
 use Rattle.kripke.specs.declared.node.Node.{Node}
 use Rattle.refine.specs.Tests.{test}
-use Rattle.refine.specs.Stages.{rested}
 use Rattle.compare.specs.declared.verdict.Outcome.{Outcome}
 use Rattle.compare.specs.declared.verdict.Outcome.TheVariants.{Alike, Different}
 
--- The initial states are the same after k rounds; the comparison is closed then.
+-- The initial states are the same after k rounds.
 abbrev pub level : Kripke → Kripke → ℕ → Bool
 level a b k = same a b k a.initial b.initial
-
-abbrev pub closed : Kripke → Kripke → ℕ → Bool
-closed a b k = not (level a b k) || rested a b k
 
 -- The outcome after k rounds, by the closing rule; none while the comparison is open.
 abbrev pub Reached : Kripke → Kripke → ℕ → Option Outcome → Type 0

@@ -1,6 +1,6 @@
 ghost use Rattle.compare.specs.Calls.{Same, first, questions, rounds, second};
 ghost use Rattle.compare.specs.Law.{Kept, Obeys, Run, Steady};
-ghost use Rattle.std.specs.Prelude.{◌≡◌, ◌≤◌, [], ◌∷◌, length, IfOk, vec_capacity, OnErr, OnOk};
+ghost use Rattle.std.specs.Prelude.{◌≡◌, [], ◌∷◌, IfOk, OnErr, OnOk};
 
 use crate::comparison::Comparison;
 use crate::requests::{Answer, Request};
@@ -24,26 +24,6 @@ impl Comparison {
         }
     }
 
-    // Answers the requests in their order, each at the end of the list.
-    fn answer_all(
-        &mut self,
-        heap: Global,
-        requests: &[Request],
-        answers: &mut Vec<Result<Answer, Error>>,
-    )
-        requires empty { answers.old.items ≡ [] }
-        requires room { length requests.now ≤ vec_capacity answers.old }
-        ensures law { Run (first self.old) (second self.old) (questions self.old) (rounds self.old)
-            requests.now answers.new.items (rounds self.new) }
-        ensures same { Same self.old self.new }
-        ensures steady { Steady self.old answers.new.items self.new }
-    {
-        for request in requests {
-            let answer = self.answer(heap, *request);
-            answers.push_reserved(answer);
-        }
-    }
-
     // Answers any list of requests in their order. Want of memory for the list of answers is the only error, and changes nothing.
     pub fn run(
         &mut self,
@@ -57,7 +37,10 @@ impl Comparison {
         ensures memory { OnErr result (self.new ≡ self.old) }
     {
         let mut answers = Vec::with_capacity(heap, requests.len())?;
-        self.answer_all(heap, requests, &mut answers);
+        for request in requests {
+            let answer = self.answer(heap, *request);
+            answers.push_reserved(answer);
+        }
         Ok(answers)
     }
 }

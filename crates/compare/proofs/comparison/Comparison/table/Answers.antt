@@ -17,7 +17,7 @@ pub returns : goal.returns
 returns c =
     let s = c.args.self.now in
     let e : level (first s) (second s) (rounds s) ≡ false = not-true _ (sym c.differs.ensures ∙ c.if-not-differs.false) in
-    let short : length (table s) ≤ 2045 = omega (arith, s.few, total_few s.stages) in (
+    let short : length (table s) ≤ 2045 = omega (arith, s.kept.few, total_few s.stages) in (
       table_clean (first s) (second s) (rounds s) e,
       subst (λ (ns : List Node). Lent s ns) (sym c.as_slice.ensures.value) (record { kept = refl; separating = separating s e; short = short }),
     )
