@@ -1,4 +1,3 @@
-pub mod Fills
 pub mod Readings
 pub mod Somes
 pub mod Rowed

@@ -1,16 +1,20 @@
 -- A state read out of a table's rows, and a numbered state of both structures.
-use Rattle.std.proofs.Common.{◌≡◌, ℕ, ◌+◌, ◌-◌, ◌<◌, ◌≤◌, false, eqb, List, length, get_or, vec_items, sym, ap, ◌∙◌, zero-add, arith}
+use Rattle.std.proofs.Common.{◌≡◌, ℕ, ◌+◌, ◌-◌, ◌<◌, ◌≤◌, eqb, List, [], ◌∷◌, map, length, get_or, vec_items, sym, refl, ap, ◌∙◌, subst, ⊎_elim, zero-add, arith}
+use Rattle.std.specs.List.{list_any}
+use Rattle.std.proofs.lemmas.Bool.{cases_lt}
 use Rattle.std.proofs.lemmas.List.{get_or-map, length-map}
 use Rattle.refine.specs.Tables.{structure_of}
 use Rattle.refine.specs.declared.table.Table.{Table}
-use Rattle.kripke.specs.Structure.{Kripke, State, Lawful, answer, size, state, successors}
+use Rattle.kripke.specs.Structure.{Kripke, State, Closed, Lawful, Member, size, state, successors}
 use Rattle.kripke.specs.Rounds.{total}
 use Rattle.kripke.specs.Tests.{some}
-use Rattle.kripke.specs.Union.{both}
-use Rattle.kripke.proofs.Unions.{both_first, both_second}
+use Rattle.kripke.specs.Union.{both, moved}
+use Rattle.kripke.proofs.Unions.{both_size, both_closed, both_first, both_second}
 use Rattle.refine.specs.Rows.{state_of, structure}
-use Rattle.refine.specs.Tests.{leads, hits}
-use Rattle.refine.proofs.Somes.{some_ext, some-map}
+use Rattle.refine.specs.Tests.{hits}
+use Rattle.refine.specs.Pairs.{first_of, second_of, both_of}
+use Rattle.refine.specs.declared.pair.Pair.{Pair}
+use Rattle.refine.proofs.Somes.{some_any, some-map, member_at}
 use Rattle.refine.specs.declared.row.Row.{Row}
 
 pub row_state_lem : (start : ℕ) (rows : List Row) (s : ℕ) (r : Row) → s < length rows → r ≡ get_or rows s r → state (structure start rows) s ≡ state_of r
@@ -35,25 +39,63 @@ table_lawful t =
       narrow = λ s h. t.narrow s (omega (arith, e, h));
     }
 
--- What is asked of a numbered state of both structures is asked of its own.
-module _ (a b : Kripke) where
-  again : (i : ℕ) → size a ≤ i → size a + (i - size a) ≡ i
-  again i l = omega arith
+-- The states of both structures, by their rows.
+plus_none : (l : List ℕ) → map (λ (t : ℕ). 0 + t) l ≡ l
+plus_none [] = refl
+plus_none (x ∷ l) = ap (λ (y : ℕ). y ∷ map (λ (t : ℕ). 0 + t) l) (zero-add x) ∙ ap (λ (m : List ℕ). x ∷ m) (plus_none l)
 
-  pub answer_first : (q i : ℕ) → i < size a → answer a i q ≡ answer (both a b) i q
-  answer_first q i l = ap (λ (x : State). get_or x.answers q false) (sym (both_first a b i l))
+moved_none : (s : State) → moved 0 s ≡ s
+moved_none s = λ i. record { answers = s.answers; next = plus_none s.next i }
 
-  pub answer_second : (q i : ℕ) → size a ≤ i → i < total a b → answer b (i - size a) q ≡ answer (both a b) i q
-  answer_second q i l h =
-      ap (λ (x : State). get_or x.answers q false) (sym (both_second a b (i - size a) (omega arith))) ∙ ap (λ (j : ℕ). answer (both a b) j q) (again i l)
+pub row_first : (t : Table) (b : Kripke) (i : ℕ) (r : Row) → i < length (vec_items t.rows) → r ≡ get_or (vec_items t.rows) i r
+    → state (both (structure_of t) b) i ≡ moved 0 (state_of r)
+row_first t b i r l e =
+    both_first (structure_of t) b i (omega (arith, l, row_size t.initial (vec_items t.rows)))
+    ∙ row_state_lem t.initial (vec_items t.rows) i r l e ∙ sym (moved_none (state_of r))
 
-  pub hits_first : (class : List ℕ) (c i : ℕ) → i < size a → leads a 0 class c i ≡ hits (both a b) class c i
-  hits_first class c i l =
-      some_ext _ _ (successors a i) (λ v m. ap (λ (j : ℕ). eqb (get_or class j 0) c) (zero-add v))
-      ∙ ap (λ (x : State). some (λ v. eqb (get_or class v 0) c) x.next) (sym (both_first a b i l))
+pub row_second : (a : Kripke) (t : Table) (i n : ℕ) (r : Row) → n ≡ size a → n ≤ i → i - n < length (vec_items t.rows) → r ≡ get_or (vec_items t.rows) (i - n) r
+    → state (both a (structure_of t)) i ≡ moved n (state_of r)
+row_second a t i n r s f l e =
+    ap (λ (j : ℕ). state (both a (structure_of t)) j) (let z : i ≡ size a + (i - n) = omega (arith, s, f) in z)
+    ∙ both_second a (structure_of t) (i - n) (omega (arith, l, row_size t.initial (vec_items t.rows)))
+    ∙ ap (λ (x : State). moved (size a) x) (row_state_lem t.initial (vec_items t.rows) (i - n) r l e)
+    ∙ ap (λ (m : ℕ). moved m (state_of r)) (sym s)
 
-  pub hits_second : (class : List ℕ) (c i : ℕ) → size a ≤ i → i < total a b → leads b (size a) class c (i - size a) ≡ hits (both a b) class c i
-  hits_second class c i l h =
-      sym (some-map (λ v. eqb (get_or class v 0) c) (λ v. size a + v) (successors b (i - size a)))
-      ∙ ap (λ (x : State). some (λ v. eqb (get_or class v 0) c) x.next) (sym (both_second a b (i - size a) (omega arith)))
-      ∙ ap (λ (j : ℕ). hits (both a b) class c j) (again i l)
+pub pair_size : (p : Pair) → size (both_of p) ≡ total (first_of p) (second_of p)
+pair_size p = both_size (first_of p) (second_of p)
+
+pub pair_total : (p : Pair) → total (first_of p) (second_of p) ≡ length (vec_items p.first.rows) + length (vec_items p.second.rows)
+pair_total p = omega (arith, row_size p.first.initial (vec_items p.first.rows), row_size p.second.initial (vec_items p.second.rows))
+
+pub pair_closed : (p : Pair) → Closed (both_of p)
+pair_closed p = both_closed (first_of p) (second_of p) (table_lawful p.first).closed (table_lawful p.second).closed
+
+-- The row of a state of lawful structures has an answer to each question.
+pub long_answers : (q : ℕ) (a b : Kripke) → Lawful q a → Lawful q b → (i : ℕ) → i < total a b → length (state (both a b) i).answers ≡ q
+long_answers q a b la lb i h = ⊎_elim
+    (λ (l : i < size a). ap (λ (x : State). length x.answers) (both_first a b i l) ∙ la.answered i l)
+    (λ (l : size a ≤ i).
+    let e : size a + (i - size a) ≡ i = omega arith in
+    ap (λ (j : ℕ). length (state (both a b) j).answers) (sym e) ∙ ap (λ (x : State). length x.answers) (both_second a b (i - size a) (omega arith))
+    ∙ lb.answered (i - size a) (omega arith))
+    (cases_lt i (size a))
+
+module _ (p : Pair) (i low : ℕ) (r : Row) (l : i < total (first_of p) (second_of p)) (e : state (both_of p) i ≡ moved low (state_of r)) where
+  pub row_answers : length (vec_items r.answers) ≡ p.first.questions
+  row_answers =
+      sym (ap (λ (x : State). length x.answers) e)
+      ∙ long_answers p.first.questions (first_of p) (second_of p) (table_lawful p.first) (subst (λ (n : ℕ). Lawful n (second_of p)) p.level (table_lawful p.second)) i l
+
+  -- Its successors, numbered on, are states of the pair.
+  pub row_inside : (k d : ℕ) → k < length (vec_items r.next) → low + get_or (vec_items r.next) k d < 512
+  row_inside k d h =
+      let f : ℕ → ℕ = λ t. low + t in
+      let m : Member (get_or (map f (vec_items r.next)) k 0) (successors (both_of p) i) =
+      subst (λ (s : State). Member (get_or (map f (vec_items r.next)) k 0) s.next) (sym e) (member_at (map f (vec_items r.next)) k (omega (arith, h, length-map (vec_items r.next) f))) in
+      omega (arith, (pair_closed p).inside i _ (omega (arith, l, pair_size p)) m, get_or-map f (vec_items r.next) k d 0 h, pair_size p, pair_total p, p.first.few, p.second.few)
+
+  pub row_hits : (class : List ℕ) (c : ℕ) → list_any (λ v. eqb (get_or class (low + v) 0) c) (vec_items r.next) ≡ hits (both_of p) class c i
+  row_hits class c =
+      sym (some_any (λ v. eqb (get_or class (low + v) 0) c) (vec_items r.next))
+      ∙ sym (some-map (λ v. eqb (get_or class v 0) c) (λ v. low + v) (vec_items r.next))
+      ∙ sym (ap (λ (x : State). some (λ v. eqb (get_or class v 0) c) x.next) e)

@@ -1,5 +1,6 @@
 -- The test of some member of a list.
 use Rattle.std.proofs.Common.{◌≡◌, ℕ, zero, suc, ◌<◌, Bool, true, false, ◌||◌, T, List, [], ◌∷◌, map, length, get_or, sym, refl, ap, ◌∙◌, inl, inr, arith}
+use Rattle.std.specs.List.{list_any}
 use Rattle.std.proofs.lemmas.Bool.{or_left, or_right, or_from}
 use Rattle.kripke.specs.Structure.{Member}
 use Rattle.kripke.specs.Tests.{some}
@@ -25,6 +26,11 @@ some_ext p q (x ∷ l) h = ap (λ b. b || some p l) (h x (inl refl)) ∙ ap (λ 
 pub some-map : (q : ℕ → Bool) (f : ℕ → ℕ) (l : List ℕ) → some q (map f l) ≡ some (λ v. q (f v)) l
 some-map q f [] = refl
 some-map q f (x ∷ l) = ap (λ b. q (f x) || b) (some-map q f l)
+
+-- The library's test of some element.
+pub some_any : (q : ℕ → Bool) (l : List ℕ) → some q l ≡ list_any q l
+some_any q [] = refl
+some_any q (x ∷ l) = ap (λ b. q x || b) (some_any q l)
 
 pub T-yes : (b : Bool) → T b → b ≡ true
 T-yes true h = refl

@@ -1,14 +1,13 @@
 -- Partitions after k rounds: their opening, the next round, whether it split anything, and the number of classes.
-use Rattle.std.proofs.Common.{◌≡◌, ℕ, zero, suc, ◌+◌, ◌-◌, ◌<◌, ◌≤◌, true, false, cond, T, eqb, ◌⊎◌, List, length, get_or, sym, ap, ◌∙◌, subst, inl, inr, ⊎_elim, zero-add, one-add, arith}
+use Rattle.std.proofs.Common.{◌≡◌, ℕ, zero, suc, ◌+◌, ◌<◌, ◌≤◌, true, false, cond, T, eqb, ◌⊎◌, List, get_or, sym, ap, ◌∙◌, subst, inl, inr, ⊎_elim, zero-add, one-add, arith}
 use Rattle.std.proofs.lemmas.List.{get_or_past}
 use Rattle.std.proofs.lemmas.Bool.{cases_lt, eqb-true, eq-eqb}
-use Rattle.kripke.specs.Structure.{Kripke, State, Closed, Lawful, answer, size, state}
+use Rattle.kripke.specs.Structure.{Kripke, Closed, Lawful, answer, state}
 use Rattle.kripke.specs.Rounds.{Settled, total}
 use Rattle.kripke.specs.Tests.{settled}
 use Rattle.kripke.specs.Union.{both}
 use Rattle.kripke.specs.Classes.{Alike, Low, Led, Numbered, Count, none, more, pass, Classes}
 use Rattle.kripke.proofs.Reflect.{beq-T, settled-T}
-use Rattle.kripke.proofs.Unions.{both_first, both_second}
 use Rattle.kripke.proofs.Classing.{opened_numbered, round_numbered, numbered_to, still_settled, class_of, table_classes}
 use Rattle.refine.specs.Classes.{leaders, bit, sum}
 use Rattle.refine.specs.Tests.{test}
@@ -16,6 +15,7 @@ use Rattle.refine.specs.Steps.{Exact}
 use Rattle.refine.specs.Rounding.{One, Asking, Rounded}
 use Rattle.refine.specs.Stages.{Told}
 use Rattle.refine.specs.declared.partition.Partition.{Partition}
+use Rattle.refine.proofs.Rowed.{long_answers}
 use Rattle.refine.proofs.Somes.{bools, T-yes}
 use Rattle.refine.proofs.Sums.{sum_same}
 use Rattle.refine.proofs.Step.{eqb_or}
@@ -47,17 +47,8 @@ classes_counted a b k p long h =
 
 -- The opening.
 module _ (q : ℕ) (a b : Kripke) (la : Lawful q a) (lb : Lawful q b) where
-  long_answers : (i : ℕ) → i < total a b → length (state (both a b) i).answers ≡ q
-  long_answers i h = ⊎_elim
-      (λ (l : i < size a). ap (λ (x : State). length x.answers) (both_first a b i l) ∙ la.answered i l)
-      (λ (l : size a ≤ i).
-      let e : size a + (i - size a) ≡ i = omega arith in
-      ap (λ (j : ℕ). length (state (both a b) j).answers) (sym e) ∙ ap (λ (x : State). length x.answers) (both_second a b (i - size a) (omega arith))
-      ∙ lb.answered (i - size a) (omega arith))
-      (cases_lt i (size a))
-
   past : (i j : ℕ) → i < total a b → q ≤ j → answer (both a b) i j ≡ false
-  past i j h l = get_or_past (state (both a b) i).answers j false (omega (arith, l, long_answers i h))
+  past i j h l = get_or_past (state (both a b) i).answers j false (omega (arith, l, long_answers q a b la lb i h))
 
   pub opening_numbered : (s : ℕ) (o p : Partition) → s ≡ total a b → One s q o → Asking (both a b) o p q → Numbered a b 0 p.class
   opening_numbered s o p e one ask = opened_numbered a b la.closed lb.closed p.class (λ i j hi hj.

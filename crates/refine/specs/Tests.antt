@@ -1,5 +1,5 @@
 -- Tests: a next-only formula at a state, and a successor in a class, answered by yes or no.
-use Rattle.std.specs.Prelude.{ℕ, ◌+◌, Bool, true, false, not, ◌&&◌, List, nat_eq, slice_index}
+use Rattle.std.specs.Prelude.{ℕ, Bool, true, false, not, ◌&&◌, List, nat_eq, slice_index}
 use Rattle.kripke.specs.Structure.{Kripke, answer, successors}
 use Rattle.kripke.specs.Tests.{some}
 use Rattle.kripke.specs.Ctl.{Formula, truth, question, and, or, EX, AX, EF, AF, EG, AG, EU, AU}
@@ -20,9 +20,6 @@ test k (AG f) s = false
 test k (EU f g) s = false
 test k (AU f g) s = false
 
--- State s has a successor in class c, where the classes of this structure's states stand in the list from `low` on, or from its start.
-abbrev pub leads : Kripke → ℕ → List ℕ → ℕ → ℕ → Bool
-leads k low class c s = some (λ v. nat_eq (slice_index class (low + v)) c) (successors k s)
-
+-- State s has a successor in class c, where the list has the classes of the states.
 abbrev pub hits : Kripke → List ℕ → ℕ → ℕ → Bool
 hits k class c s = some (λ v. nat_eq (slice_index class v) c) (successors k s)

@@ -1,6 +1,7 @@
-ghost use Rattle.std.specs.Prelude.{◌≡◌, IfOk};
-ghost use Rattle.kripke.specs.Structure.{state, successors};
+ghost use Rattle.std.specs.Prelude.{◌≡◌, ℕ, ◌<◌, length, slice_index_or, IfOk};
+ghost use Rattle.kripke.specs.Structure.{size, state, successors};
 ghost use Rattle.refine.specs.Rows.{state_of, structure};
+ghost use Rattle.refine.specs.declared.row.Row.{Row};
 
 use crate::row::Row;
 use crate::table::Table;
@@ -12,22 +13,16 @@ use std::alloc::{AllocError, Global};
 fn answers<L: Label>(heap: Global, label: &L) -> Result<Vec<bool>, AllocError>
     ensures { IfOk result (λ v. v.items ≡ L.Label.answers label.now) }
 {
-    let mut v = Vec::new(heap);
-    for i in 0..L::questions() {
-        v.push(label.answer(i))?;
-    }
-    Ok(v)
+    (0..L::questions()).map(|i| label.answer(i)).collect(heap)
 }
 
 // The successors of state s in their order.
 fn next<M: Model>(heap: Global, model: &M, s: usize) -> Result<Vec<usize>, AllocError>
     ensures { IfOk result (λ v. v.items ≡ successors (M.Model.meaning model.now) s) }
 {
-    let mut v = Vec::new(heap);
-    for i in 0..model.degree(s) {
-        v.push(model.successor(s, i))?;
-    }
-    Ok(v)
+    (0..model.degree(s))
+        .map(|i| model.successor(s, i))
+        .collect(heap)
 }
 
 // State s of the model.
@@ -40,6 +35,17 @@ fn row<L: Label, M: Model<Label = L>>(heap: Global, model: &M, s: usize) -> Resu
     Ok(Row { answers, next })
 }
 
+// The states of the model in their order.
+fn rows<L: Label, M: Model<Label = L>>(heap: Global, model: &M) -> Result<Vec<Row>, AllocError>
+    ensures long { IfOk result (λ v. length v.items ≡ size (M.Model.meaning model.now)) }
+    ensures each { IfOk result (λ v. (s : ℕ) (d : Row) → s < length v.items
+        → state_of (slice_index_or v.items s d) ≡ state (M.Model.meaning model.now) s) }
+{
+    (0..model.states())
+        .map(|s| row(heap, model, s))
+        .try_collect(heap)
+}
+
 // The whole model, asked state by state.
 pub(crate) fn read<L: Label, M: Model<Label = L>>(
     heap: Global,
@@ -50,10 +56,7 @@ pub(crate) fn read<L: Label, M: Model<Label = L>>(
 {
     let questions = L::questions();
     let initial = model.initial();
-    let mut rows = Vec::new(heap);
-    for s in 0..model.states() {
-        rows.push(row(heap, model, s)?)?;
-    }
+    let rows = rows(heap, model)?;
     Ok(Table {
         questions,
         initial,

@@ -12,9 +12,9 @@ fn renumber(class: &mut [u16; 512], row: &[bool; 512], states: u16, c: u16, s: u
     ensures { (t : ℕ) → t < states → slice_index class.new t ≡ moved class.old row.now c s t }
 {
     let side = row[s as usize];
-    for t in 0..states {
-        if class[t as usize] == c && row[t as usize] == side {
-            class[t as usize] = s;
+    for (t, number) in class[..states as usize].iter_mut().enumerate() {
+        if *number == c && row[t] == side {
+            *number = s;
         }
     }
 }

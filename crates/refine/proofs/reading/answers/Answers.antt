@@ -1,15 +1,12 @@
-use Rattle.std.proofs.Common.{◌<◌, ◌≤◌, false, length, vec_items, arith}
-use Rattle.refine.proofs.Fills.{fill_more, fill_all}
+use Rattle.std.proofs.Common.{◌≡◌, ℕ, Bool, List, false, get_or, vec_items, IfOk, sym, refl, ◌∙◌, subst, arith, rules}
+use Rattle.std.proofs.lemmas.Iterator.{items_from_collect, YieldsList-from_map, YieldsList-from_range}
+use Rattle.std.proofs.lemmas.List.FromFn.{fill_by_all}
 use Rattle.refine.proofs.reading.answers.Goals as goal
-
-pub loop-i-preserved : goal.loop-i-preserved
-loop-i-preserved g c =
-    let xs = g.L.Label.answers c.args.label.now in
-    let l : c.loop-i.i < length xs = omega (arith, c.loop-i.invariant.0, g.met.L.Label.answered c.args.label.now) in
-    (c.loop-i.invariant.0, fill_more xs c.loop-i.i false (vec_items c.loop-i.v) (vec_items c.push.new.self) c.answer.result l c.loop-i.invariant.1 c.answer.ensures c.in_ok-push.ensures.items)
 
 pub returns : goal.returns
 returns g c =
-    let xs = g.L.Label.answers c.args.label.now in
-    let l : length xs ≤ c.loop-i.i = omega (arith, c.loop-i.invariant.0, g.met.L.Label.answered c.args.label.now) in
-    fill_all xs c.loop-i.i _ l c.loop-i.invariant.1
+    let xs : List Bool = g.L.Label.answers c.args.label.now in
+    let f : ℕ → Bool = λ i. get_or xs i false in
+    subst (λ (ys : List Bool). IfOk c.collect.result (λ v. vec_items v ≡ ys))
+    (sym (fill_by_all f xs c.questions.result false (g.met.L.Label.answered c.args.label.now ∙ sym c.questions.ensures) (λ k l. refl)))
+    (items_from_collect _ c.collect.ensures.ran (YieldsList-from_map _ f (YieldsList-from_range 0 _ _ c.map.ensures.source (omega arith)) c.map.ensures.closure (λ x r q k. search rules)))

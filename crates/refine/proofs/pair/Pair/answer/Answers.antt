@@ -1,28 +1,18 @@
-use Rattle.std.proofs.Common.{◌≡◌, ℕ, ◌-◌, length, vec_items, ap, ◌∙◌, arith, rules}
-use Rattle.kripke.specs.Structure.{answer, size}
-use Rattle.refine.specs.Pairs.{first_of, second_of}
-use Rattle.refine.proofs.Rowed.{row_size, answer_first, answer_second}
+use Rattle.std.proofs.Common.{◌<◌, false, length, get_or, vec_items, sym, ap, ◌∙◌, arith}
+use Rattle.std.proofs.lemmas.List.{get_or_read}
+use Rattle.kripke.specs.Structure.{State}
+use Rattle.refine.proofs.Rowed.{row_answers}
 use Rattle.refine.proofs.pair.Pair.answer.Goals as goal
 
-pub answer-requires-else-i-n : goal.answer-requires-else-i-n
-answer-requires-else-i-n c =
-    let p = c.args.self.now in
-    let n : c.len-n.result ≡ length (vec_items p.first.rows) = search rules in
-    record {
-      state = omega (arith, n, c.requires.state, c.if-i-n.false, row_size p.first.initial (vec_items p.first.rows), row_size p.second.initial (vec_items p.second.rows));
-      question = omega (arith, c.requires.question, p.level);
-    }
+pub index-requires : goal.index-requires
+index-requires c =
+    let r = c.row.result.0.now in
+    omega (arith, row_answers c.args.self.now c.args.i c.row.result.1 r c.requires.state c.row.ensures, c.requires.question, r.answers.ok.0)
 
-pub returns-then-i-n : goal.returns-then-i-n
-returns-then-i-n c =
-    let p = c.args.self.now in
-    let n : c.len-n.result ≡ length (vec_items p.first.rows) = search rules in
-    c.answer.ensures ∙ answer_first (first_of p) (second_of p) c.args.q c.args.i (omega (arith, n, c.if-i-n.true, row_size p.first.initial (vec_items p.first.rows)))
-
-pub returns-else-i-n : goal.returns-else-i-n
-returns-else-i-n c =
-    let p = c.args.self.now in
-    let n : c.len-n.result ≡ length (vec_items p.first.rows) = search rules in
-    let e : c.len-n.result ≡ size (first_of p) = omega (arith, n, row_size p.first.initial (vec_items p.first.rows)) in
-    c.answer-else-i-n.ensures ∙ ap (λ (z : ℕ). answer (second_of p) (c.args.i - z) c.args.q) e
-    ∙ answer_second (first_of p) (second_of p) c.args.q c.args.i (omega (arith, e, c.if-i-n.false)) c.requires.state
+pub returns : goal.returns
+returns c =
+    let r = c.row.result.0.now in
+    let l : c.args.q < length (vec_items r.answers) =
+    omega (arith, row_answers c.args.self.now c.args.i c.row.result.1 r c.requires.state c.row.ensures, c.requires.question) in
+    get_or_read (vec_items r.answers) c.args.q c.index.result.now l c.index.ensures false
+    ∙ sym (ap (λ (x : State). get_or x.answers c.args.q false) c.row.ensures)

@@ -1,30 +1,22 @@
-use Rattle.std.proofs.Common.{◌≡◌, ℕ, ◌-◌, length, vec_items, ap, ◌∙◌, arith, rules}
-use Rattle.kripke.specs.Structure.{size}
-use Rattle.refine.specs.Tests.{leads}
-use Rattle.refine.specs.Pairs.{first_of, second_of}
-use Rattle.refine.proofs.Rowed.{row_size, hits_first, hits_second}
+use Rattle.std.proofs.Common.{ℕ, ◌+◌, ◌<◌, eqb, List, get_or, vec_items, sym, ◌∙◌, subst, rules, tests}
+use Rattle.std.proofs.lemmas.Iterator.{YieldsList-from_slice}
+use Rattle.std.proofs.lemmas.Iterator.Adapters.{serves_from_places}
+use Rattle.std.proofs.lemmas.Iterator.Search.{any_from_yields_List}
+use Rattle.refine.proofs.Rowed.{row_inside, row_hits}
 use Rattle.refine.proofs.pair.Pair.leads.Goals as goal
 
-pub leads-requires-else-i-n : goal.leads-requires-else-i-n
-leads-requires-else-i-n c =
-    let p = c.args.self.now in
-    let n : c.len-n.result ≡ length (vec_items p.first.rows) = search rules in
-    record {
-      state = omega (arith, n, c.requires, c.if-i-n.false, row_size p.first.initial (vec_items p.first.rows), row_size p.second.initial (vec_items p.second.rows));
-      low = omega (arith, n, p.first.few);
-    }
+pub any-requires-clause-callable : goal.any-requires-clause-callable
+any-requires-clause-callable c =
+    let r = c.row-low.result.0.now in
+    let xs : List ℕ = vec_items r.next in
+    let low : ℕ = c.row-low.result.1 in
+    serves_from_places (YieldsList-from_slice xs cc) (λ x q k. search (rules, tests)) (λ x k l e.
+    let b : low + x.now < 512 = subst (λ (n : ℕ). low + n < 512) (sym e) (row_inside c.args.self.now c.args.i low r c.requires c.row-low.ensures k x.now l) in search rules)
 
-pub returns-then-i-n : goal.returns-then-i-n
-returns-then-i-n c =
-    let p = c.args.self.now in
-    let n : c.len-n.result ≡ length (vec_items p.first.rows) = search rules in
-    c.leads.ensures
-    ∙ hits_first (first_of p) (second_of p) c.args.class.now c.args.c c.args.i (omega (arith, n, c.if-i-n.true, row_size p.first.initial (vec_items p.first.rows)))
-
-pub returns-else-i-n : goal.returns-else-i-n
-returns-else-i-n c =
-    let p = c.args.self.now in
-    let n : c.len-n.result ≡ length (vec_items p.first.rows) = search rules in
-    let e : c.len-n.result ≡ size (first_of p) = omega (arith, n, row_size p.first.initial (vec_items p.first.rows)) in
-    c.leads-else-i-n.ensures ∙ ap (λ (z : ℕ). leads (second_of p) z c.args.class.now c.args.c (c.args.i - z)) e
-    ∙ hits_second (first_of p) (second_of p) c.args.class.now c.args.c c.args.i (omega (arith, e, c.if-i-n.false)) c.requires
+pub returns : goal.returns
+returns c =
+    let r = c.row-low.result.0.now in
+    let xs : List ℕ = vec_items r.next in
+    let low : ℕ = c.row-low.result.1 in
+    any_from_yields_List (λ v. eqb (get_or c.args.class.now (low + v) 0) c.args.c) _ _ _ c.any.ensures.ran (YieldsList-from_slice xs cc) (λ x b q k. search (rules, tests))
+    ∙ row_hits c.args.self.now c.args.i low r c.requires c.row-low.ensures c.args.class.now c.args.c

@@ -1,5 +1,0 @@
-use Rattle.std.proofs.Common.{◌≡◌, take, vec_items}
-use Rattle.refine.proofs.reading.answers.Given as goal
-
-abbrev pub invariant-loop-i : goal.invariant-loop-i
-invariant-loop-i g l = (l.i-end ≡ g.L.Label.count) × (vec_items l.v ≡ take l.i (g.L.Label.answers l.label))

@@ -1,8 +1,0 @@
-use Rattle.std.proofs.Common.{◌≡◌, length, take, vec_items}
-use Rattle.kripke.specs.Structure.{successors}
-use Rattle.refine.proofs.reading.next.Given as goal
-
-abbrev pub invariant-loop-i : goal.invariant-loop-i
-invariant-loop-i g l =
-    (l.i-end ≡ length (successors (g.M.Model.meaning l.model) l.s))
-    × (vec_items l.v ≡ take l.i (successors (g.M.Model.meaning l.model) l.s))
