@@ -1,5 +1,5 @@
 -- A refinement's initial states, and the formula that tells them apart.
-use Rattle.std.proofs.Common.{◌≡◌, ℕ, ◌+◌, ◌*◌, ◌<◌, ◌≤◌, Bool, true, false, not, ◌||◌, T, eqb, List, [], length, get_or, vec_items, sym, refl, ap, ◌∙◌, subst, arith}
+use Rattle.std.proofs.Common.{◌≡◌, ℕ, ◌+◌, ◌*◌, ◌<◌, ◌≤◌, Bool, true, false, not, T, eqb, List, [], length, get_or, vec_items, sym, refl, ap, ◌∙◌, subst, arith}
 use Rattle.std.proofs.lemmas.Bool.{eq-eqb, eqb-false, ne_eqb, lt-ltb, le-leb}
 use Rattle.kripke.specs.Structure.{Kripke, Lawful, size}
 use Rattle.kripke.specs.Ctl.{Formula, nesting}
@@ -19,7 +19,7 @@ use Rattle.refine.proofs.Orders.{T_and}
 use Rattle.refine.proofs.Rowed.{row_size, table_lawful}
 use Rattle.refine.proofs.Scan.{count_le}
 use Rattle.refine.proofs.Staging.{told_exact}
-use Rattle.compare.specs.Closing.{level, tells}
+use Rattle.compare.specs.Closing.{level}
 use Rattle.compare.specs.Pruned.{Pruned}
 use Rattle.compare.specs.Kept.{Kept}
 use Rattle.compare.proofs.Rulings.{same_of}

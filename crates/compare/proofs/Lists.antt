@@ -1,6 +1,6 @@
 -- A list of requests that grows with what they are answered.
-use Rattle.std.proofs.Common.{◌≡◌, ℕ, ◌+◌, ◌<◌, ◌≤◌, List, [], ◌∷◌, ◌++◌, length, get_or, take, sym, refl, ap, ◌∙◌, subst}
-use Rattle.std.proofs.lemmas.List.{take_more, take_all}
+use Rattle.std.proofs.Common.{◌≡◌, ℕ, ◌+◌, ◌<◌, List, [], ◌∷◌, ◌++◌, length, get_or, take, sym, refl, ap, ◌∙◌, subst}
+use Rattle.std.proofs.lemmas.List.{take_more}
 use Rattle.kripke.specs.Structure.{Kripke}
 use Rattle.compare.specs.Calls.{Same, first, second, questions, rounds}
 use Rattle.compare.specs.Law.{Answered, Obeys, Run, none, more}
@@ -17,9 +17,6 @@ run_none a b q k ss e = run_moved a b q k [] [] [] ss k refl e none
 pub run_step : (a b : Kripke) (q k : ℕ) (rs : List Request) (i : ℕ) (ss ss' : List Answered) (s : Answered) (n m : ℕ) → i < length rs
     → Run a b q k (take i rs) ss n → Obeys a b q n (get_or rs i request.Round) s m → ss' ≡ ss ++ s ∷ [] → Run a b q k (take (i + 1) rs) ss' m
 run_step a b q k rs i ss ss' s n m l r o e = run_moved a b q k _ _ _ _ m (take_more rs i request.Round l) e (more r (get_or rs i request.Round) s o)
-
-pub run_all : (a b : Kripke) (q k : ℕ) (rs : List Request) (i : ℕ) (ss : List Answered) (n : ℕ) → length rs ≤ i → Run a b q k (take i rs) ss n → Run a b q k rs ss n
-run_all a b q k rs i ss n l r = run_moved a b q k _ rs ss ss n (sym (take_all i rs l)) refl r
 
 -- A request answered, where the comparison went from c to d.
 pub law_at : (c d : Comparison) (r r' : Request) (s : Answered) (m : ℕ) → r ≡ r' → rounds d ≡ m → Obeys (first c) (second c) (questions c) (rounds c) r' s m

@@ -1,5 +1,5 @@
 -- What follows from the closing rule for the calls.
-use Rattle.std.proofs.Common.{◌≡◌, ℕ, zero, suc, ◌+◌, ◌*◌, ◌<◌, ◌≤◌, Bool, true, false, not, ◌||◌, T, Some, None, sym, refl, ap, ◌∙◌, subst, inl, inr, arith}
+use Rattle.std.proofs.Common.{◌≡◌, ℕ, zero, suc, ◌+◌, ◌*◌, ◌<◌, ◌≤◌, Bool, true, false, not, T, Some, None, sym, refl, ap, subst, inl, inr, arith}
 use native.Mathlib.Decide.{ℕ_discrete}
 use Rattle.kripke.specs.Structure.{Kripke, Lawful}
 use Rattle.kripke.specs.Rounds.{Same, Apart, total, ClosedDifferent, ClosedAlike, ClosedAfter, FirstClosed}

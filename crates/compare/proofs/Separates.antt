@@ -1,5 +1,5 @@
 -- The kept table of a comparison that is closed as different.
-use Rattle.std.proofs.Common.{◌≡◌, ℕ, ◌+◌, ◌-◌, ◌<◌, ◌≤◌, false, not, ◌&&◌, ◌||◌, T, ltb, leb, ◌↔◌, length, get_or, sym, subst, inl, inr, arith}
+use Rattle.std.proofs.Common.{◌≡◌, ℕ, ◌+◌, ◌-◌, ◌<◌, ◌≤◌, false, not, ◌&&◌, T, ltb, leb, ◌↔◌, length, get_or, sym, subst, inl, inr, arith}
 use Rattle.std.proofs.lemmas.Bool.{leb-true, ltb-true}
 use Rattle.kripke.specs.Structure.{Member, size}
 use Rattle.kripke.specs.Ctl.{Formula, Holds, NextOnly, nesting}

@@ -10,7 +10,8 @@ use refine::refinement::Refinement;
 #[derive(Drop)]
 pub struct Comparison {
     pub(crate) stages: Refinement,
-    // Once it is closed as different: the nodes of a formula that tells the models apart. Before, none: the room stays reserved, so that no round asks for memory.
+    // Once it is closed as different: the nodes of a formula that tells the models apart.
+    // Before, no node, and not an option: the room is reserved at the opening, so that no round asks for memory.
     pub(crate) formula: Nodes,
     ghost open: { (j : ℕ) → j < stages.rounds → ClosedAfter (first stages) (second stages) j → ⊥ },
     ghost kept: { Kept stages formula.list.items },

@@ -7,6 +7,8 @@ use kripke::operator::Operator;
 use refine::nodes::Nodes;
 use refine::partition::Partition;
 
+// Nodes name each other by number, so the loops below go over the numbers. Their tables are arrays, since a round allocates nothing.
+
 // The nodes that a node names. In a next-only table the last arm is that of `not` and EX.
 fn operands(node: Node) -> (Option<u16>, Option<u16>)
     ensures first { result.0 ≡ named (uses_a node) node.a }

@@ -9,7 +9,7 @@ use crate::prune::prune;
 use refine::nodes::Nodes;
 use refine::refinement::Refinement;
 
-// Functions of the stages alone: a comparison has kept its formula in every call of a method, and `keep` brings that about.
+// These take the stages alone: between a round and `keep` there is no whole comparison for a method.
 
 // The classes of the initial states; in the pair the second's states come past those of the first.
 fn initial_classes(stages: &Refinement) -> (u16, u16)
