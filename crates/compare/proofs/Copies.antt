@@ -132,10 +132,10 @@ module _ (qs : ℕ) (ns : List Node) (root : ℕ) (ks : List Bool) (to : List �
   }
 
 -- The same for the items of a vector.
-pub copied_push : (qs : ℕ) (ns : List Node) (ks : List Bool) (i : ℕ) (to : List ℕ) (m : ℕ) (ms ms' : List Node) (x : Node)
+pub copied_push : (qs : ℕ) (ns : List Node) (ks : List Bool) (i : ℕ) (to : List ℕ) (m : ℕ) (ms after : List Node) (x : Node)
     → Orderly qs ns → i < length ns → i < length to → Refs ns ks i → get_or ks i false ≡ true → x ≡ rename to (get_or ns i blank)
-    → m ≡ length ms → ms' ≡ ms ++ x ∷ [] → Copied qs ns ks i to ms → Copied qs ns ks (i + 1) (set to i m) ms'
-copied_push qs ns ks i to m ms ms' x he hi ht hr hk e d p c =
+    → m ≡ length ms → after ≡ ms ++ x ∷ [] → Copied qs ns ks i to ms → Copied qs ns ks (i + 1) (set to i m) after
+copied_push qs ns ks i to m ms after x he hi ht hr hk e d p c =
     subst (λ (z : List Node). Copied qs ns ks (i + 1) (set to i m) z) (sym (p ∙ ap (λ (z : Node). ms ++ z ∷ []) e))
     (subst (λ (z : ℕ). Copied qs ns ks (i + 1) (set to i z) (ms ++ rename to (get_or ns i blank) ∷ [])) (sym d)
     (copied_more qs ns ks i to ms he hi ht hr c hk))

@@ -1,5 +1,5 @@
 -- A refinement's initial states, and the formula that tells them apart.
-use Rattle.std.proofs.Common.{◌≡◌, ℕ, ◌+◌, ◌*◌, ◌<◌, ◌≤◌, Bool, true, false, not, ◌||◌, T, eqb, List, [], length, get_or, vec_items, sym, refl, ap, ◌∙◌, subst, arith}
+use Rattle.std.proofs.Common.{◌≡◌, ℕ, ◌+◌, ◌*◌, ◌<◌, ◌≤◌, Bool, true, false, not, T, eqb, List, [], length, get_or, vec_items, sym, refl, ap, ◌∙◌, subst, arith}
 use Rattle.std.proofs.lemmas.Bool.{eq-eqb, eqb-false, ne_eqb, lt-ltb, le-leb}
 use Rattle.kripke.specs.Structure.{Kripke, Lawful, size}
 use Rattle.kripke.specs.Ctl.{Formula, nesting}
@@ -19,9 +19,10 @@ use Rattle.refine.proofs.Orders.{T_and}
 use Rattle.refine.proofs.Rowed.{row_size, table_lawful}
 use Rattle.refine.proofs.Scan.{count_le}
 use Rattle.refine.proofs.Staging.{told_exact}
-use Rattle.compare.specs.Closing.{level, tells}
+use Rattle.compare.specs.Closing.{level}
 use Rattle.compare.specs.Pruned.{Pruned}
 use Rattle.compare.specs.Kept.{Kept}
+use Rattle.compare.proofs.Rulings.{same_of}
 
 module _ (r : Refinement) where
   pub first_lawful : Lawful (questions r) (first r)
@@ -59,22 +60,27 @@ module _ (r : Refinement) where
       (λ t. (together-T (first r) (second r) r.rounds one (size (first r) + r.pair.second.initial)).1
       (c.0 ((same-T (first r) (second r) r.rounds one r.pair.second.initial).0 t)))
 
-  pub nodes_few : length (vec_items r.parts.nodes) + 3 ≤ 4 * total (first r) (second r)
-  nodes_few = omega (arith, r.few, count_le r.parts, r.long)
+  pub level_at : (x y : ℕ) → x ≡ class_of r.parts (first r).initial → y ≡ class_of r.parts (size (first r) + (second r).initial)
+      → level (first r) (second r) r.rounds ≡ eqb x y
+  level_at x y d e =
+      sym (ap (λ (z : ℕ). eqb z y) d ∙ ap (λ (z : ℕ). eqb (class_of r.parts one) z) (e ∙ ap (λ (s : ℕ). class_of r.parts (s + (second r).initial)) first_size) ∙ level_is)
 
-  pub nodes_fit : length (vec_items r.parts.nodes) ≤ 2045
-  nodes_fit = omega (arith, r.few, count_le r.parts, r.parts.few)
+  pub total_few : total (first r) (second r) ≤ 512
+  total_few = omega (arith, r.long, r.parts.few)
+
+  pub nodes_few : length (vec_items r.parts.nodes.list) + 3 ≤ 4 * total (first r) (second r)
+  nodes_few = omega (arith, r.parts.spare, count_le r.parts, r.long)
 
   pub kept_none : level (first r) (second r) r.rounds ≡ true → (ns : List Node) → ns ≡ [] → Kept r ns
   kept_none e ns z = subst (λ (l : List Node). Kept r l) (sym z) (record {
     few = omega (arith, first_lawful.some);
     orderly = λ i l. absurd (omega arith);
     useful = λ i l. absurd (omega arith);
-    telling = subst T (sym (ap (λ b. b || tells (first r) (second r) r.rounds []) e)) tt;
+    telling = λ d. absurd (d (same_of (first r) (second r) r.rounds e));
   })
 
   module _ (e : level (first r) (second r) r.rounds ≡ false) (ns : List Node)
-      (h : Pruned (questions r) (vec_items r.parts.nodes) (get_or r.parts.node (class_of r.parts one) 0) ns) where
+      (h : Pruned (questions r) (vec_items r.parts.nodes.list) (get_or r.parts.node (class_of r.parts one) 0) ns) where
     same_root : root ns ≡ class_formula r.parts one
     same_root = h.same
 
@@ -96,9 +102,8 @@ module _ (r : Refinement) where
     kept_some = record {
       few = omega (arith, h.few, nodes_few, r.parts.here one one_in);
       orderly = h.orderly;
-      useful = h.useful;
-      telling = subst (λ b. T (b || tells (first r) (second r) r.rounds ns)) (sym e)
-          (T_and _ _
+      useful = λ i l. ∣ h.useful i l ∣₁;
+      telling = λ d. T_and _ _
           (T_and _ _ (yes-T _ (lt-ltb 0 (length ns) h.some)) (yes-T _ (le-leb _ _ (subst (λ (f : Formula). nesting f ≤ r.rounds) (sym same_root) (r.shallow one one_in)))))
-          (T_and _ _ (yes-T _ at_one) (yes-T _ (ap not at_other))));
+          (T_and _ _ (yes-T _ at_one) (yes-T _ (ap not at_other)));
     }

@@ -1,36 +1,25 @@
--- A list copied to the start of another, and a list that grows with what it answers.
-use Rattle.std.proofs.Common.{◌≡◌, ℕ, ◌+◌, ◌<◌, ◌≤◌, List, [], ◌∷◌, ◌++◌, length, get_or, take, drop, set, sym, refl, ap, ◌∙◌, subst, arith}
-use Rattle.std.proofs.lemmas.List.{take_more, take_more_set, take_all, drop-set-lt}
+-- A list of requests that grows with what they are answered.
+use Rattle.std.proofs.Common.{◌≡◌, ℕ, ◌+◌, ◌<◌, List, [], ◌∷◌, ◌++◌, length, get_or, take, sym, refl, ap, ◌∙◌, subst}
+use Rattle.std.proofs.lemmas.List.{take_more}
 use Rattle.kripke.specs.Structure.{Kripke}
 use Rattle.compare.specs.Calls.{Same, first, second, questions, rounds}
-use Rattle.compare.specs.Law.{Obeys, Run, none, more}
+use Rattle.compare.specs.Law.{Answered, Obeys, Run, none, more}
 use Rattle.compare.specs.declared.comparison.Comparison.{Comparison}
 use Rattle.compare.specs.declared.requests.Request.{Request}
 use Rattle.compare.specs.declared.requests.Request.TheVariants as request
-use Rattle.compare.specs.declared.requests.Answer.{Answer}
 
-pub copy_more : {X : Type 0} (xs ys : List X) (i : ℕ) (x d : X) → i < length xs → i < length ys → x ≡ get_or xs i d → take i ys ≡ take i xs → take (i + 1) (set ys i x) ≡ take (i + 1) xs
-copy_more {X} xs ys i x d l m e h =
-    take_more_set ys i x m ∙ ap (λ (z : List X). z ++ x ∷ []) h ∙ ap (λ (z : X). take i xs ++ z ∷ []) e ∙ sym (take_more xs i d l)
+pub run_moved : (a b : Kripke) (q k : ℕ) (rs rs' : List Request) (ss ss' : List Answered) (n : ℕ) → rs' ≡ rs → ss' ≡ ss → Run a b q k rs ss n → Run a b q k rs' ss' n
+run_moved a b q k rs rs' ss ss' n e f r = subst (λ (x : List Request). Run a b q k x ss' n) (sym e) (subst (λ (x : List Answered). Run a b q k rs x n) (sym f) r)
 
-pub copy_rest : {X : Type 0} (ys zs : List X) (i : ℕ) (x : X) → ((m : ℕ) → i ≤ m → drop m ys ≡ drop m zs) → (m : ℕ) → i + 1 ≤ m → drop m (set ys i x) ≡ drop m zs
-copy_rest ys zs i x h m l = drop-set-lt m ys i x (omega arith) ∙ h m (omega arith)
-
-pub run_moved : (a b : Kripke) (q k : ℕ) (rs rs' : List Request) (ss ss' : List Answer) (n : ℕ) → rs' ≡ rs → ss' ≡ ss → Run a b q k rs ss n → Run a b q k rs' ss' n
-run_moved a b q k rs rs' ss ss' n e f r = subst (λ (x : List Request). Run a b q k x ss' n) (sym e) (subst (λ (x : List Answer). Run a b q k rs x n) (sym f) r)
-
-pub run_none : (a b : Kripke) (q k : ℕ) (ss : List Answer) → ss ≡ [] → Run a b q k [] ss k
+pub run_none : (a b : Kripke) (q k : ℕ) (ss : List Answered) → ss ≡ [] → Run a b q k [] ss k
 run_none a b q k ss e = run_moved a b q k [] [] [] ss k refl e none
 
-pub run_step : (a b : Kripke) (q k : ℕ) (rs : List Request) (i : ℕ) (ss ss' : List Answer) (s : Answer) (n m : ℕ) → i < length rs
+pub run_step : (a b : Kripke) (q k : ℕ) (rs : List Request) (i : ℕ) (ss ss' : List Answered) (s : Answered) (n m : ℕ) → i < length rs
     → Run a b q k (take i rs) ss n → Obeys a b q n (get_or rs i request.Round) s m → ss' ≡ ss ++ s ∷ [] → Run a b q k (take (i + 1) rs) ss' m
 run_step a b q k rs i ss ss' s n m l r o e = run_moved a b q k _ _ _ _ m (take_more rs i request.Round l) e (more r (get_or rs i request.Round) s o)
 
-pub run_all : (a b : Kripke) (q k : ℕ) (rs : List Request) (i : ℕ) (ss : List Answer) (n : ℕ) → length rs ≤ i → Run a b q k (take i rs) ss n → Run a b q k rs ss n
-run_all a b q k rs i ss n l r = run_moved a b q k _ rs ss ss n (sym (take_all i rs l)) refl r
-
 -- A request answered, where the comparison went from c to d.
-pub law_at : (c d : Comparison) (r r' : Request) (s : Answer) (m : ℕ) → r ≡ r' → rounds d ≡ m → Obeys (first c) (second c) (questions c) (rounds c) r' s m
+pub law_at : (c d : Comparison) (r r' : Request) (s : Answered) (m : ℕ) → r ≡ r' → rounds d ≡ m → Obeys (first c) (second c) (questions c) (rounds c) r' s m
     → Obeys (first c) (second c) (questions c) (rounds c) r s (rounds d)
 law_at c d r r' s m e f o =
     subst (λ (x : Request). Obeys (first c) (second c) (questions c) (rounds c) x s (rounds d)) (sym e)
@@ -43,7 +32,7 @@ pub same_trans : (c d e : Comparison) → Same c d → Same d e → Same c e
 same_trans c d e p q = record { first_is = q.first_is ∙ p.first_is; second_is = q.second_is ∙ p.second_is; questions_is = q.questions_is ∙ p.questions_is }
 
 -- The law of the comparison as it began.
-pub law_from : (c d : Comparison) (r : Request) (s : Answer) (m : ℕ) → Same c d → Obeys (first d) (second d) (questions d) (rounds d) r s m
+pub law_from : (c d : Comparison) (r : Request) (s : Answered) (m : ℕ) → Same c d → Obeys (first d) (second d) (questions d) (rounds d) r s m
     → Obeys (first c) (second c) (questions c) (rounds d) r s m
 law_from c d r s m e o =
     subst (λ (a : Kripke). Obeys a (second c) (questions c) (rounds d) r s m) e.first_is

@@ -1,9 +1,10 @@
 -- Marking the nodes that a root reaches.
-use Rattle.std.proofs.Common.{◌≡◌, ℕ, zero, suc, ◌+◌, ◌<◌, ◌≤◌, Bool, true, false, cond, ◌⊎◌, List, length, get_or, set, replicate, sym, refl, ap, ◌∙◌, subst, inl, inr, arith, get_or-set_other, get_or-set_same}
+use Rattle.std.proofs.Common.{◌≡◌, ℕ, zero, suc, ◌+◌, ◌<◌, ◌≤◌, Bool, true, false, cond, ◌⊎◌, List, length, get_or, set, replicate, sym, refl, ◌∙◌, subst, inl, inr, Option, MatchOption, arith, get_or-set_other, get_or-set_same}
 use lib.ListN.{length-replicate}
 use native.Mathlib.Decide.{ℕ_discrete}
 use Rattle.kripke.specs.Nodes.{blank}
 use Rattle.refine.specs.Growth.{Orderly}
+use Rattle.compare.specs.Pruned.{named}
 use Rattle.compare.specs.Reach.{uses_a, uses_b, Reach, here, by_a, by_b, Refs, Marking}
 use Rattle.kripke.specs.declared.node.Node.{Node}
 use Rattle.compare.proofs.Renames.{never, names_a, names_b}
@@ -29,8 +30,17 @@ marks_on true x ks h = record {
 }
 marks_on false x ks h = record { more = λ j e. e; at = λ e. never e; only = λ j e. inl e }
 
-pub marks : (u on : Bool) (x : ℕ) (ks ls : List Bool) → u ≡ on → (on ≡ true → x < length ks) → ls ≡ cond u (set ks x true) ks → Marks on x ks ls
-marks u on x ks ls d h e = subst (λ (z : List Bool). Marks on x ks z) (sym (e ∙ ap (λ v. cond v (set ks x true) ks) d)) (marks_on on x ks h)
+-- Marking an operand.
+pub marks : (on : Bool) (x : ℕ) (o : Option ℕ) (ks ls : List Bool) → o ≡ named on x → (on ≡ true → x < length ks)
+    → MatchOption o (ls ≡ ks) (λ y. ls ≡ set ks y true) → Marks on x ks ls
+marks true x o ks ls d h e =
+    subst (λ (z : List Bool). Marks true x ks z) (sym (subst (λ (p : Option ℕ). MatchOption p (ls ≡ ks) (λ y. ls ≡ set ks y true)) d e)) (marks_on true x ks h)
+marks false x o ks ls d h e =
+    subst (λ (z : List Bool). Marks false x ks z) (sym (subst (λ (p : Option ℕ). MatchOption p (ls ≡ ks) (λ y. ls ≡ set ks y true)) d e)) (marks_on false x ks h)
+
+pub named_low : (on : Bool) (x : ℕ) (o : Option ℕ) → o ≡ named on x → (on ≡ true → x < 2048) → MatchOption o (Unit {0}) (λ y. y < 2048)
+named_low true x o d h = subst (λ (p : Option ℕ). MatchOption p (Unit {0}) (λ y. y < 2048)) (sym d) (h refl)
+named_low false x o d h = subst (λ (p : Option ℕ). MatchOption p (Unit {0}) (λ y. y < 2048)) (sym d) tt
 
 all_false : (n j : ℕ) → get_or (replicate n false) j false ≡ false
 all_false zero j = refl

@@ -1,11 +1,13 @@
 -- Renumbered nodes: what they name, their order, and the formulas that they make.
-use Rattle.std.proofs.Common.{◌≡◌, ℕ, ◌<◌, Bool, true, false, cond, ◌&&◌, T, eqb, ltb, List, get_or, sym, refl, ap, ◌∙◌, subst}
+use Rattle.std.proofs.Common.{◌≡◌, ℕ, ◌+◌, ◌<◌, ◌≤◌, Bool, true, false, cond, ◌&&◌, T, eqb, ltb, List, length, get_or, vec_items, sym, refl, ap, ◌∙◌, subst, arith}
 use Rattle.std.proofs.lemmas.Bool.{eq-eqb}
 use Rattle.kripke.specs.Ctl.{Formula, truth, and, EX}
-use Rattle.kripke.specs.Nodes.{made}
+use Rattle.kripke.specs.Nodes.{made, blank}
 use Rattle.kripke.specs.declared.node.Node.{Node}
 use Rattle.refine.specs.Growth.{next_node}
+use Rattle.refine.specs.declared.partition.Partition.{Partition}
 use Rattle.refine.proofs.Orders.{Shape, always, asks, denies, joins, steps, shape, T_and, lt_T, made_at}
+use Rattle.refine.proofs.Scan.{count_le}
 use Rattle.compare.specs.Reach.{uses_a, uses_b}
 use Rattle.compare.specs.Pruned.{rename}
 
@@ -38,6 +40,16 @@ names_a q i n h e = low_a q i n (shape q i n h) e
 
 pub names_b : (q i : ℕ) (n : Node) → T (next_node q i n) → uses_b n ≡ true → n.b < i
 names_b q i n h e = low_b q i n (shape q i n h) e
+
+-- The same in a partition, whose nodes fit a table of 2048.
+pub earlier_a : (p : Partition) (i : ℕ) (n : Node) → i < length (vec_items p.nodes.list) → n ≡ get_or (vec_items p.nodes.list) i blank → uses_a n ≡ true → n.a < i
+earlier_a p i n l r e = names_a p.questions i n (subst (λ (m : Node). T (next_node p.questions i m)) (sym r) (p.orderly i l)) e
+
+pub earlier_b : (p : Partition) (i : ℕ) (n : Node) → i < length (vec_items p.nodes.list) → n ≡ get_or (vec_items p.nodes.list) i blank → uses_b n ≡ true → n.b < i
+earlier_b p i n l r e = names_b p.questions i n (subst (λ (m : Node). T (next_node p.questions i m)) (sym r) (p.orderly i l)) e
+
+pub nodes_fit : (p : Partition) → length (vec_items p.nodes.list) + 3 ≤ 2048
+nodes_fit p = omega (arith, p.spare, count_le p, p.few)
 
 eq_T : (a b : ℕ) → a ≡ b → T (eqb a b)
 eq_T a b e = subst T (sym (eq-eqb a b e)) tt

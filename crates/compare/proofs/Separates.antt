@@ -1,5 +1,5 @@
 -- The kept table of a comparison that is closed as different.
-use Rattle.std.proofs.Common.{◌≡◌, ℕ, ◌+◌, ◌-◌, ◌<◌, ◌≤◌, false, not, ◌&&◌, ◌||◌, T, ltb, leb, ◌↔◌, length, get_or, sym, subst, inl, inr, arith}
+use Rattle.std.proofs.Common.{◌≡◌, ℕ, ◌+◌, ◌-◌, ◌<◌, ◌≤◌, false, not, ◌&&◌, T, ltb, leb, ◌↔◌, length, get_or, sym, subst, inl, inr, arith}
 use Rattle.std.proofs.lemmas.Bool.{leb-true, ltb-true}
 use Rattle.kripke.specs.Structure.{Member, size}
 use Rattle.kripke.specs.Ctl.{Formula, Holds, NextOnly, nesting}
@@ -30,7 +30,7 @@ coded q i n (steps c a b) = inr (inr (inr (inr (inl c))))
 
 module _ (c : Comparison) (e : level (first c) (second c) (rounds c) ≡ false) where
   told : T (tells (first c) (second c) (rounds c) (table c))
-  told = subst (λ l. T (l || tells (first c) (second c) (rounds c) (table c))) e c.telling
+  told = c.kept.telling (different_T (first c) (second c) (rounds c) e)
 
   sized : T (ltb 0 (length (table c)) && leb (nesting (root (table c))) (rounds c))
   sized = (and_T _ _ told).0
@@ -45,7 +45,7 @@ module _ (c : Comparison) (e : level (first c) (second c) (rounds c) ≡ false) 
   shallow = leb-true _ _ (T-yes _ (and_T _ _ sized).1)
 
   plain : NextOnly (root (table c))
-  plain = next_only (questions c) (table c) c.orderly (length (table c) - 1) (omega (arith, some))
+  plain = next_only (questions c) (table c) c.kept.orderly (length (table c) - 1) (omega (arith, some))
 
   one_in : (first c).initial < total (first c) (second c)
   one_in = omega (arith, (first_lawful c.stages).begins)
@@ -72,15 +72,15 @@ module _ (c : Comparison) (e : level (first c) (second c) (rounds c) ≡ false) 
 
   least : (f : Formula) → NextOnly f → Separates (first c) (second c) (first c).initial (second c).initial f → rounds c ≤ nesting f
   least = (different_separated (questions c) (first c) (second c) (first_lawful c.stages) (second_lawful c.stages) (rounds c)
-      (first_different (questions c) (first c) (second c) (first_lawful c.stages) (second_lawful c.stages) (rounds c) c.open e) (different_T (first c) (second c) (rounds c) e)).1
+      (first_different (questions c) (first c) (second c) (first_lawful c.stages) (second_lawful c.stages) (rounds c) c.open (different_T (first c) (second c) (rounds c) e)) (different_T (first c) (second c) (rounds c) e)).1
 
   pub separating : Separating (first c) (second c) (questions c) (rounds c) (table c)
   separating = record {
     some = some;
-    few = c.few;
-    well_formed = well_formed (questions c) (table c) c.orderly;
-    next_only = λ i l. coded (questions c) i (get_or (table c) i blank) (shape (questions c) i (get_or (table c) i blank) (c.orderly i l));
-    useful = c.useful;
+    few = c.kept.few;
+    well_formed = well_formed (questions c) (table c) c.kept.orderly;
+    next_only = λ i l. coded (questions c) i (get_or (table c) i blank) (shape (questions c) i (get_or (table c) i blank) (c.kept.orderly i l));
+    useful = c.kept.useful;
     nests = omega (arith, shallow, least (root (table c)) plain (inl (here, there)));
     here = here;
     there = there;

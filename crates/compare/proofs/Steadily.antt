@@ -8,22 +8,21 @@ use Rattle.kripke.specs.declared.node.Node.{Node}
 use Rattle.kripke.specs.declared.refusal.Cause.TheVariants.{ClosedComparison, NotDifferent}
 use Rattle.compare.specs.Breaches.{RoundBreach, FormulaBreach, closed, no_difference}
 use Rattle.compare.specs.Calls.{first, second, rounds, table}
-use Rattle.compare.specs.Law.{Tells, Kept}
+use Rattle.compare.specs.Law.{Answered, Tells, Kept}
 use Rattle.compare.specs.declared.comparison.Comparison.{Comparison}
-use Rattle.compare.specs.declared.requests.Answer.{Answer}
 
 abbrev Closed : Comparison → Type 0
 Closed c = ClosedAfter (first c) (second c) (rounds c)
 
-pub kept_none : (c : Comparison) (ss : List Answer) → ss ≡ [] → Kept c ss c
+pub kept_none : (c : Comparison) (ss : List Answered) → ss ≡ [] → Kept c ss c
 kept_none c ss e =
-    let none : (ns : List Node) → AllByRecursion (Tells ns) ss = λ ns. subst (λ (xs : List Answer). AllByRecursion (Tells ns) xs) (sym e) tt in
+    let none : (ns : List Node) → AllByRecursion (Tells ns) ss = λ ns. subst (λ (xs : List Answered). AllByRecursion (Tells ns) xs) (sym e) tt in
     record { steady = record { still = λ h. refl; tells = none (table c) }; formed = inl none }
 
 -- one answer more
-pub kept_more : (c d e : Comparison) (ss then : List Answer) (s : Answer) → Kept c ss d → Kept d (s ∷ []) e → then ≡ ss ++ s ∷ [] → Kept c then e
+pub kept_more : (c d e : Comparison) (ss then : List Answered) (s : Answered) → Kept c ss d → Kept d (s ∷ []) e → then ≡ ss ++ s ∷ [] → Kept c then e
 kept_more c d e ss then s old new is =
-    subst (λ (xs : List Answer). Kept c xs e) (sym is)
+    subst (λ (xs : List Answered). Kept c xs e) (sym is)
     record {
       steady = record { still = λ h. held h; tells = All-push (Tells (table e)) ss s (⊎_elim (λ none. none (table e)) same old.formed) new.steady.tells.0 };
       formed = ⊎_elim unclosed shut old.formed;
@@ -44,11 +43,11 @@ kept_more c d e ss then s old new is =
     unclosed none = ⊎_elim (λ one. inl (λ ns. All-push (Tells ns) ss s (none ns) (one ns).0)) (λ h. inr h) new.formed
 
 -- an answer that is no formula, from a comparison that stays
-pub kept_same : (c d : Comparison) (s : Answer) → d ≡ c → ((ns : List Node) → Tells ns s) → Kept c (s ∷ []) d
+pub kept_same : (c d : Comparison) (s : Answered) → d ≡ c → ((ns : List Node) → Tells ns s) → Kept c (s ∷ []) d
 kept_same c d s e none = record { steady = record { still = λ h. e; tells = (none (table d), tt) }; formed = inl (λ ns. (none ns, tt)) }
 
 -- an accepted round, of an open comparison
-pub kept_open : (c d : Comparison) (s : Answer) → Clean (RoundBreach (first c) (second c) (rounds c)) → ((ns : List Node) → Tells ns s) → Kept c (s ∷ []) d
+pub kept_open : (c d : Comparison) (s : Answered) → Clean (RoundBreach (first c) (second c) (rounds c)) → ((ns : List Node) → Tells ns s) → Kept c (s ∷ []) d
 kept_open c d s clean none =
     record {
       steady = record { still = λ h. absurd (clean ClosedComparison (rounds c) (closed h)); tells = (none (table d), tt) };
@@ -56,7 +55,7 @@ kept_open c d s clean none =
     }
 
 -- a formula, of a comparison closed as different
-pub kept_formula : (c : Comparison) (s : Answer) (p : ℕ) → Clean (FormulaBreach (first c) (second c) (rounds c) p) → Tells (table c) s → Kept c (s ∷ []) c
+pub kept_formula : (c : Comparison) (s : Answered) (p : ℕ) → Clean (FormulaBreach (first c) (second c) (rounds c) p) → Tells (table c) s → Kept c (s ∷ []) c
 kept_formula c s p clean tells =
     record {
       steady = record { still = λ h. refl; tells = (tells, tt) };

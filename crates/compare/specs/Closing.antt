@@ -1,20 +1,25 @@
--- The closing rule as a test, and what a kept formula has to tell.
-use Rattle.std.specs.Prelude.{ℕ, ◌+◌, Bool, not, ◌&&◌, ◌||◌, List, length, nat_le, nat_lt}
+-- The closing rule, and what a kept formula has to tell.
+use Rattle.std.specs.Prelude.{ℕ, ◌+◌, Bool, not, ◌&&◌, List, length, nat_le, nat_lt, Some, None, Option}
 use Rattle.kripke.specs.Structure.{Kripke, size}
 use Rattle.kripke.specs.Ctl.{nesting}
 use Rattle.kripke.specs.Nodes.{root}
+use Rattle.kripke.specs.Rounds.{ClosedDifferent, ClosedAlike, ClosedAfter}
 use Rattle.kripke.specs.Tests.{same}
 use Rattle.kripke.specs.Union.{both}
 use Rattle.kripke.specs.declared.node.Node.{Node}
 use Rattle.refine.specs.Tests.{test}
-use Rattle.refine.specs.Stages.{rested}
+use Rattle.compare.specs.declared.verdict.Outcome.{Outcome}
+use Rattle.compare.specs.declared.verdict.Outcome.TheVariants.{Alike, Different}
 
--- The initial states are the same after k rounds; the comparison is closed then.
+-- The initial states are the same after k rounds.
 abbrev pub level : Kripke → Kripke → ℕ → Bool
 level a b k = same a b k a.initial b.initial
 
-abbrev pub closed : Kripke → Kripke → ℕ → Bool
-closed a b k = not (level a b k) || rested a b k
+-- The outcome after k rounds, by the closing rule; none while the comparison is open.
+abbrev pub Reached : Kripke → Kripke → ℕ → Option Outcome → Type 0
+Reached a b k (Some Different) = ClosedDifferent a b k
+Reached a b k (Some Alike) = ClosedAlike a b k
+Reached a b k None = ClosedAfter a b k → ⊥
 
 -- The table's root holds at the first initial state, fails at the second, and nests at most k deep.
 abbrev pub tells : Kripke → Kripke → ℕ → List Node → Bool

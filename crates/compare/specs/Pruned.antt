@@ -1,10 +1,14 @@
 -- The table of a node's parts alone, renumbered.
-use Rattle.std.specs.Prelude.{◌≡◌, ℕ, suc, ◌+◌, ◌-◌, ◌<◌, ◌≤◌, Bool, true, false, cond, List, length, slice_index, slice_index_or}
+use Rattle.std.specs.Prelude.{◌≡◌, ℕ, suc, ◌+◌, ◌-◌, ◌<◌, ◌≤◌, Bool, true, false, cond, List, length, slice_index, slice_index_or, Some, None, Option}
 use Rattle.kripke.specs.Nodes.{blank, formula}
 use Rattle.kripke.specs.Nodes as nodes
 use Rattle.kripke.specs.declared.node.Node.{Node}
 use Rattle.refine.specs.Growth.{Orderly}
 use Rattle.compare.specs.Reach.{uses_a, uses_b, Reach}
+
+-- A number that a node uses, as an operand.
+abbrev pub named : Bool → ℕ → Option ℕ
+named used x = cond used (Some x) None
 
 -- The node with the numbers that `to` has for what it names.
 abbrev pub rename : List ℕ → Node → Node

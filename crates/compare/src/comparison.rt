@@ -1,11 +1,9 @@
-ghost use Rattle.std.specs.Prelude.{ℕ, ◌+◌, ◌-◌, ◌*◌, ◌<◌, ◌≤◌, not, ◌||◌, T, length, vec_capacity};
-ghost use Rattle.compare.specs.Closing.{closed, level, tells};
-ghost use Rattle.compare.specs.Reach.{Reach};
-ghost use Rattle.kripke.specs.Rounds.{total};
-ghost use Rattle.refine.specs.Growth.{Orderly};
-ghost use Rattle.refine.specs.Refinements.{first, questions, second};
+ghost use Rattle.std.specs.Prelude.{ℕ, ◌<◌};
+ghost use Rattle.compare.specs.Kept.{Kept};
+ghost use Rattle.kripke.specs.Rounds.{ClosedAfter};
+ghost use Rattle.refine.specs.Refinements.{first, second};
 
-use kripke::node::Node;
+use refine::nodes::Nodes;
 use refine::refinement::Refinement;
 
 // A comparison of two models. It was open after every number of rounds before the present one.
@@ -13,11 +11,8 @@ use refine::refinement::Refinement;
 pub struct Comparison {
     pub(crate) stages: Refinement,
     // Once it is closed as different: the nodes of a formula that tells the models apart.
-    pub(crate) formula: Vec<Node>,
-    ghost open: { (j : ℕ) → j < stages.rounds → T (not (closed (first stages) (second stages) j)) },
-    ghost room: { 2048 ≤ vec_capacity formula },
-    ghost few: { length formula.items + 3 ≤ 4 * total (first stages) (second stages) },
-    ghost orderly: { Orderly (questions stages) formula.items },
-    ghost useful: { (i : ℕ) → i < length formula.items → ∥ Reach formula.items (length formula.items - 1) i ∥₁ },
-    ghost telling: { T (level (first stages) (second stages) stages.rounds || tells (first stages) (second stages) stages.rounds formula.items) },
+    // Before, no node, and not an option: the room is reserved at the opening, so that no round asks for memory.
+    pub(crate) formula: Nodes,
+    ghost open: { (j : ℕ) → j < stages.rounds → ClosedAfter (first stages) (second stages) j → ⊥ },
+    ghost kept: { Kept stages formula.list.items },
 }

@@ -1,105 +1,99 @@
-ghost use Rattle.std.specs.Prelude.{◌≡◌, ◌+◌, ◌<◌, ◌≤◌, true, [], length, if◌then◌else◌, vec_capacity, slice_index, slice_set};
-ghost use Rattle.compare.specs.Pruned.{Pruned, rename};
+ghost use Rattle.std.specs.Prelude.{◌≡◌, ◌+◌, ◌<◌, ◌≤◌, true, [], length, slice_index, slice_set, None, Some, MatchOption};
+ghost use Rattle.compare.specs.Pruned.{Pruned, named, rename};
 ghost use Rattle.compare.specs.Reach.{Marking, uses_a, uses_b};
 
 use kripke::node::Node;
+use kripke::operator::Operator;
+use refine::nodes::Nodes;
 use refine::partition::Partition;
 
-// The codes of true, a question and `and`.
-const TRUTH: u8 = 0;
+// Nodes name each other by number, so the loops below go over the numbers. Their tables are arrays, since a round allocates nothing.
 
-const QUESTION: u8 = 1;
-
-const AND: u8 = 3;
-
-fn uses_a(n: Node) -> bool
-    ensures { result ≡ uses_a n }
+// The nodes that a node names. In a next-only table the last arm is that of `not` and EX.
+fn operands(node: Node) -> (Option<u16>, Option<u16>)
+    ensures first { result.0 ≡ named (uses_a node) node.a }
+    ensures second { result.1 ≡ named (uses_b node) node.b }
 {
-    n.code != TRUTH && n.code != QUESTION
+    match Operator::try_from(node.code) {
+        Ok(Operator::Truth | Operator::Question) => (None, None),
+        Ok(Operator::And) => (Some(node.a), Some(node.b)),
+        _ => (Some(node.a), None),
+    }
 }
 
-fn uses_b(n: Node) -> bool
-    ensures { result ≡ uses_b n }
+// Marks the operand, where there is one.
+fn mark(operand: Option<u16>, reached: &mut [bool; 2048])
+    requires { MatchOption operand (Unit {0}) (λ x. x < 2048) }
+    ensures { MatchOption operand (reached.new ≡ reached.old) (λ x. reached.new ≡ slice_set reached.old x true) }
 {
-    n.code == AND
-}
-
-// Marks x where it names a node.
-fn mark(on: bool, x: u16, reached: &mut [bool; 2048])
-    requires { on ≡ true → x < 2048 }
-    ensures { reached.new ≡ (if on then slice_set reached.old x true else reached.old) }
-{
-    if on {
+    if let Some(x) = operand {
         reached[x as usize] = true;
     }
 }
 
-// The new number of x where it names a node, else x.
-fn place(on: bool, x: u16, to: &[u16; 2048]) -> u16
-    requires { on ≡ true → x < 2048 }
-    ensures { result ≡ (if on then slice_index to.now x else x) }
+// The node with the new numbers of its operands.
+fn renamed(node: Node, to: &[u16; 2048]) -> Node
+    requires a { uses_a node ≡ true → node.a < 2048 }
+    requires b { uses_b node ≡ true → node.b < 2048 }
+    ensures { result ≡ rename to.now node }
 {
-    if on { to[x as usize] } else { x }
-}
-
-fn renamed(n: Node, to: &[u16; 2048]) -> Node
-    requires a { uses_a n ≡ true → n.a < 2048 }
-    requires b { uses_b n ≡ true → n.b < 2048 }
-    ensures { result ≡ rename to.now n }
-{
+    let (a, b) = operands(node);
     Node {
-        code: n.code,
-        a: place(uses_a(n), n.a, to),
-        b: place(uses_b(n), n.b, to),
+        code: node.code,
+        a: place(a, to).unwrap_or(node.a),
+        b: place(b, to).unwrap_or(node.b),
     }
 }
 
+// The new number of the operand, where there is one.
+fn place(operand: Option<u16>, to: &[u16; 2048]) -> Option<u16>
+    requires { MatchOption operand (Unit {0}) (λ x. x < 2048) }
+    ensures { MatchOption operand (result ≡ None) (λ x. result ≡ Some (slice_index to.now x)) }
+{
+    Some(to[operand? as usize])
+}
+
 // Which nodes the root reaches. What a node names is earlier, so one way down does.
+#[tactic(auto, using(crate::proofs::Renames::nodes_fit))]
 fn reach(parts: &Partition, root: usize) -> [bool; 2048]
-    requires few { length parts.now.nodes.items ≤ 2045 }
-    requires inside { root < length parts.now.nodes.items }
-    ensures { Marking parts.now.nodes.items root 0 result }
+    requires { root < length parts.now.nodes.list.items }
+    ensures { Marking parts.now.nodes.list.items root 0 result }
 {
     let mut reached = [false; 2048];
     reached[root] = true;
     for i in (0..root + 1).rev() {
         if reached[i] {
-            let n = parts.nodes[i];
-            mark(uses_a(n), n.a, &mut reached);
-            mark(uses_b(n), n.b, &mut reached);
+            let (a, b) = operands(parts.nodes.list[i]);
+            mark(a, &mut reached);
+            mark(b, &mut reached);
         }
     }
     reached
 }
 
 // Copies the marked nodes up to the root, renumbered.
-fn copy(parts: &Partition, root: usize, reached: &[bool; 2048], out: &mut Vec<Node>)
-    requires few { length parts.now.nodes.items ≤ 2045 }
-    requires inside { root < length parts.now.nodes.items }
-    requires marked { Marking parts.now.nodes.items root 0 reached.now }
-    requires empty { out.old.items ≡ [] }
-    requires room { 2048 ≤ vec_capacity out.old }
-    ensures pruned { Pruned parts.now.questions parts.now.nodes.items root out.new.items }
-    ensures room { 2048 ≤ vec_capacity out.new }
+#[tactic(auto, using(crate::proofs::Renames::nodes_fit))]
+fn copy(parts: &Partition, root: usize, reached: &[bool; 2048], out: &mut Nodes)
+    requires inside { root < length parts.now.nodes.list.items }
+    requires marked { Marking parts.now.nodes.list.items root 0 reached.now }
+    requires empty { out.old.list.items ≡ [] }
+    ensures { Pruned parts.now.questions parts.now.nodes.list.items root out.new.list.items }
 {
     let mut to = [0; 2048];
     for i in 0..root + 1 {
         if reached[i] {
-            let m = out.len() as u16;
-            out.push_reserved(renamed(parts.nodes[i], &to));
+            let m = out.list.len() as u16;
+            out.list.push_reserved(renamed(parts.nodes.list[i], &to));
             to[i] = m;
         }
     }
 }
 
 // The nodes that the root reaches, in their order, renumbered.
-pub(crate) fn prune(parts: &Partition, root: usize, out: &mut Vec<Node>)
-    requires few { length parts.now.nodes.items ≤ 2045 }
-    requires inside { root < length parts.now.nodes.items }
-    requires empty { out.old.items ≡ [] }
-    requires room { 2048 ≤ vec_capacity out.old }
-    ensures pruned { Pruned parts.now.questions parts.now.nodes.items root out.new.items }
-    ensures room { 2048 ≤ vec_capacity out.new }
+pub(crate) fn prune(parts: &Partition, root: usize, out: &mut Nodes)
+    requires inside { root < length parts.now.nodes.list.items }
+    requires empty { out.old.list.items ≡ [] }
+    ensures { Pruned parts.now.questions parts.now.nodes.list.items root out.new.list.items }
 {
     let reached = reach(parts, root);
     copy(parts, root, &reached, out);

@@ -1,6 +1,5 @@
 use crate::verdict::Verdict;
 use kripke::node::Node;
-use kripke::refusal::Error;
 
 // What a comparison is asked: a round, the class of a state, the verdict, the formula into so many places.
 #[derive(Clone, Copy, PartialEq, Eq, Debug)]
@@ -11,12 +10,11 @@ pub enum Request {
     Formula(usize),
 }
 
-// What it answers: the number of classes, a class, the verdict, a formula's nodes, or how the request failed.
-#[derive(Drop)]
+// What it answers: the number of classes, a class, the verdict, a formula's nodes.
+#[derive(PartialEq, Eq, Debug, Drop)]
 pub enum Answer {
     Round(usize),
     Class(usize),
     Verdict(Verdict),
     Formula(Vec<Node>),
-    Failed(Error),
 }

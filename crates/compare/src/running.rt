@@ -1,6 +1,6 @@
 ghost use Rattle.compare.specs.Calls.{Same, first, questions, rounds, second};
 ghost use Rattle.compare.specs.Law.{Kept, Obeys, Run, Steady};
-ghost use Rattle.std.specs.Prelude.{◌≡◌, ◌≤◌, [], ◌∷◌, length, IfOk, vec_capacity, OnErr, OnOk};
+ghost use Rattle.std.specs.Prelude.{◌≡◌, [], ◌∷◌, IfOk, OnErr, OnOk};
 
 use crate::comparison::Comparison;
 use crate::requests::{Answer, Request};
@@ -9,51 +9,27 @@ use std::alloc::{AllocError, Global};
 
 impl Comparison {
     // Answers one request.
-    fn answer(&mut self, heap: Global, request: Request) -> Answer
+    fn answer(&mut self, heap: Global, request: Request) -> Result<Answer, Error>
         ensures law { Obeys (first self.old) (second self.old) (questions self.old) (rounds self.old) request result (rounds self.new) }
         ensures same { Same self.old self.new }
         ensures kept { Kept self.old (result ∷ []) self.new }
     {
         match request {
-            Request::Round => match self.round() {
-                Ok(n) => Answer::Round(n),
-                Err(e) => Answer::Failed(Error::Refused(e)),
-            },
-            Request::Class(i) => match self.class(i) {
-                Ok(c) => Answer::Class(c),
-                Err(e) => Answer::Failed(Error::Refused(e)),
-            },
-            Request::Verdict => match self.verdict() {
-                Ok(v) => Answer::Verdict(v),
-                Err(e) => Answer::Failed(Error::Refused(e)),
-            },
-            Request::Formula(places) => match self.told(places) {
-                Ok(nodes) => match Vec::from_slice(heap, nodes) {
-                    Ok(v) => Answer::Formula(v),
-                    Err(_) => Answer::Failed(Error::Memory),
-                },
-                Err(e) => Answer::Failed(Error::Refused(e)),
-            },
-        }
-    }
-
-    // Answers the requests in their order, each at the end of the list.
-    fn answer_all(&mut self, heap: Global, requests: &[Request], answers: &mut Vec<Answer>)
-        requires empty { answers.old.items ≡ [] }
-        requires room { length requests.now ≤ vec_capacity answers.old }
-        ensures law { Run (first self.old) (second self.old) (questions self.old) (rounds self.old)
-            requests.now answers.new.items (rounds self.new) }
-        ensures same { Same self.old self.new }
-        ensures steady { Steady self.old answers.new.items self.new }
-    {
-        for request in requests {
-            let answer = self.answer(heap, *request);
-            answers.push_reserved(answer);
+            Request::Round => Ok(Answer::Round(self.round()?)),
+            Request::Class(i) => Ok(Answer::Class(self.class(i)?)),
+            Request::Verdict => Ok(Answer::Verdict(self.verdict()?)),
+            Request::Formula(places) => {
+                Ok(Answer::Formula(Vec::from_slice(heap, self.told(places)?)?))
+            }
         }
     }
 
     // Answers any list of requests in their order. Want of memory for the list of answers is the only error, and changes nothing.
-    pub fn run(&mut self, heap: Global, requests: &[Request]) -> Result<Vec<Answer>, AllocError>
+    pub fn run(
+        &mut self,
+        heap: Global,
+        requests: &[Request],
+    ) -> Result<Vec<Result<Answer, Error>>, AllocError>
         ensures law { IfOk result (λ v. Run (first self.old) (second self.old) (questions self.old) (rounds self.old)
             requests.now v.items (rounds self.new)) }
         ensures same { OnOk result (Same self.old self.new) }
@@ -61,7 +37,10 @@ impl Comparison {
         ensures memory { OnErr result (self.new ≡ self.old) }
     {
         let mut answers = Vec::with_capacity(heap, requests.len())?;
-        self.answer_all(heap, requests, &mut answers);
+        for request in requests {
+            let answer = self.answer(heap, *request);
+            answers.push_reserved(answer);
+        }
         Ok(answers)
     }
 }

@@ -6,72 +6,65 @@
 mod tests {
     use compare::comparison::Comparison;
     use compare::requests::{Answer, Request};
-    use compare::verdict::Outcome;
+    use compare::verdict::{Outcome, Verdict};
     use evaluator::evaluate;
     use image::slot::Slot;
     use image::stored::StoredModel;
     use kripke::label::Label;
     use kripke::model::Model;
     use kripke::node::Node;
-    use kripke::refusal::{Error, Refusal};
+    use kripke::refusal::{Cause, Layer, Refusal};
+    use labels::coded::Coded;
+    use labels::kind::Kind;
     use labels::reading::Reading;
     use labels::signal::SignalWord;
     use rules::model::RuleModel;
     use rules::rule::Rule;
-    use std::alloc::{AllocError, Global};
+    use std::alloc::Global;
     use std::process::Abort;
     use std::test::Fail;
 
     // An image: of each state its label and first link, and of each link its target and next link.
     fn image(
         heap: Global,
-        kind: u8,
+        kind: Kind,
         states: &[([u8; 4], u16)],
         links: &[(u16, u16)],
-    ) -> Result<Vec<u8>, AllocError> {
-        let [n, n_high] = ((states.len() % 65536) as u16).to_le_bytes();
-        let [m, m_high] = ((links.len() % 65536) as u16).to_le_bytes();
-        let mut bytes = Vec::from_slice(heap, &[kind, 0, n, n_high, m, m_high, 0, 0])?;
+    ) -> Result<Vec<u8>, Fail> {
+        let [n, n_high] = u16::try_from(states.len())?.to_le_bytes();
+        let [m, m_high] = u16::try_from(links.len())?.to_le_bytes();
+        let mut bytes = vec![in heap; u8::from(kind), 0, n, n_high, m, m_high, 0, 0]?;
         for (label, first) in states {
-            let [low, high] = first.to_le_bytes();
             bytes.extend_from_slice(label)?;
-            bytes.extend_from_slice(&[low, high, 0, 0])?;
+            bytes.extend_from_slice(&first.to_le_bytes())?;
+            bytes.extend_from_slice(&[0, 0])?;
         }
         for (target, next) in links {
-            let [low, high] = target.to_le_bytes();
-            let [next, next_high] = next.to_le_bytes();
-            bytes.extend_from_slice(&[low, high, next, next_high])?;
+            bytes.extend_from_slice(&target.to_le_bytes())?;
+            bytes.extend_from_slice(&next.to_le_bytes())?;
         }
         Ok(bytes)
     }
 
-    fn words(
+    // The model that an image of these states and links loads.
+    fn stored<C: Coded + Drop>(
         heap: Global,
         states: &[([u8; 4], u16)],
         links: &[(u16, u16)],
-    ) -> Result<StoredModel<SignalWord>, Fail> {
-        let bytes = image(heap, 1, states, links)?;
-        let mut model = StoredModel::<SignalWord>::new(heap)?;
-        match model.load(heap, bytes.as_slice(), Slot::First) {
-            Ok(()) => Ok(model),
-            Err(_) => Err(Fail::new("the image is refused")),
-        }
+    ) -> Result<StoredModel<C>, Fail> {
+        let bytes = image(heap, C::kind(), states, links)?;
+        let mut model = StoredModel::<C>::new(heap)?;
+        model.load(heap, bytes.as_slice(), Slot::First)?;
+        Ok(model)
     }
 
     // Two states that lead to each other, with these labels.
     fn readings(heap: Global, one: [u8; 4], two: [u8; 4]) -> Result<StoredModel<Reading>, Fail> {
-        let bytes = image(heap, 2, &[(one, 1), (two, 2)], &[(1, 0), (0, 0)])?;
-        let mut model = StoredModel::<Reading>::new(heap)?;
-        match model.load(heap, bytes.as_slice(), Slot::First) {
-            Ok(()) => Ok(model),
-            Err(_) => Err(Fail::new("the image is refused")),
-        }
+        stored(heap, &[(one, 1), (two, 2)], &[(1, 0), (0, 0)])
     }
 
-    fn told(rt: &impl Abort, refusal: Refusal, number: u8, place: usize) {
-        assert_eq!(rt; refusal.number(), number);
-        assert_eq!(rt; refusal.layer_number(), 6);
-        assert_eq!(rt; refusal.place, place);
+    fn refusal(cause: Cause, place: usize) -> Refusal {
+        Layer::Comparison.refusal(cause, place)
     }
 
     // The comparison closes so, after so many rounds and no fewer.
@@ -85,28 +78,18 @@ mod tests {
     ) -> Result<Comparison, Fail> {
         let mut comparison = Comparison::open(heap, first, second)?;
         for k in 0..rounds {
-            match comparison.verdict() {
-                Ok(_) => return Err(Fail::new("closed too early")),
-                Err(e) => told(rt, e, 19, k),
-            }
-            if comparison.round().is_err() {
-                return Err(Fail::new("a round is refused"));
-            }
+            assert_eq!(rt;
+                comparison.verdict(),
+                Err(refusal(Cause::OpenComparison, k))
+            );
+            comparison.round()?;
         }
-        match comparison.verdict() {
-            Ok(v) => {
-                assert_eq!(rt; v.rounds, rounds);
-                assert_eq!(rt; v.outcome, outcome);
-            }
-            Err(_) => return Err(Fail::new("not closed")),
-        }
-        match comparison.round() {
-            Ok(_) => Err(Fail::new("a round past the closing")),
-            Err(e) => {
-                told(rt, e, 17, rounds);
-                Ok(comparison)
-            }
-        }
+        assert_eq!(rt; comparison.verdict(), Ok(Verdict { rounds, outcome }));
+        assert_eq!(rt;
+            comparison.round(),
+            Err(refusal(Cause::ClosedComparison, rounds))
+        );
+        Ok(comparison)
     }
 
     // Both models' evaluations of the formula tell them apart; it has so many nodes.
@@ -118,34 +101,19 @@ mod tests {
         second: &N,
         nodes: usize,
     ) -> Result<(), Fail> {
-        let mut places = Vec::new(heap);
-        let mut table = Vec::new(heap);
-        for _ in 0..2045 {
-            places.push(Node {
-                code: 9,
-                a: 9,
-                b: 9,
-            })?;
-        }
-        for _ in 0..8180 {
-            table.push(0)?;
-        }
-        match comparison.formula(places.as_mut_slice()) {
-            Ok(n) => assert_eq!(rt; n, nodes),
-            Err(_) => return Err(Fail::new("the formula is refused")),
-        }
+        let filler = Node {
+            code: 9,
+            a: 9,
+            b: 9,
+        };
+        let mut places = vec![in heap; filler; 2045]?;
+        let mut table = vec![in heap; 0; 8180]?;
+        assert_eq!(rt; comparison.formula(places.as_mut_slice()), Ok(nodes));
         places.truncate(nodes);
-        match evaluate(first, places.as_slice(), table.as_mut_slice()) {
-            Ok(e) => assert!(rt; e.holds),
-            Err(_) => return Err(Fail::new("no table")),
-        }
-        match evaluate(second, places.as_slice(), table.as_mut_slice()) {
-            Ok(e) => {
-                assert!(rt; !e.holds);
-                Ok(())
-            },
-            Err(_) => Err(Fail::new("no table")),
-        }
+        assert_eq!(rt; comparison.table(), Ok(places.as_slice()));
+        assert!(rt; evaluate(first, places.as_slice(), table.as_mut_slice())?.holds);
+        assert!(rt; !evaluate(second, places.as_slice(), table.as_mut_slice())?.holds);
+        Ok(())
     }
 
     const DARK: [u8; 4] = [0, 0, 0, 0];
@@ -156,11 +124,11 @@ mod tests {
 
     // The bench models: one dark state; three states, the last lit; two ways into one of two lights, chosen late or early.
     fn dark(heap: Global) -> Result<StoredModel<SignalWord>, Fail> {
-        words(heap, &[(DARK, 1)], &[(0, 0)])
+        stored(heap, &[(DARK, 1)], &[(0, 0)])
     }
 
     fn slow(heap: Global) -> Result<StoredModel<SignalWord>, Fail> {
-        words(
+        stored(
             heap,
             &[(DARK, 1), (DARK, 2), (ONE, 3)],
             &[(1, 0), (2, 0), (2, 0)],
@@ -168,7 +136,7 @@ mod tests {
     }
 
     fn late(heap: Global) -> Result<StoredModel<SignalWord>, Fail> {
-        words(
+        stored(
             heap,
             &[(DARK, 1), (DARK, 2), (ONE, 4), (TWO, 5)],
             &[(1, 0), (2, 3), (3, 0), (2, 0), (3, 0)],
@@ -176,7 +144,7 @@ mod tests {
     }
 
     fn early(heap: Global) -> Result<StoredModel<SignalWord>, Fail> {
-        words(
+        stored(
             heap,
             &[(DARK, 1), (DARK, 3), (DARK, 4), (ONE, 5), (TWO, 6)],
             &[(1, 2), (2, 0), (3, 0), (4, 0), (3, 0), (4, 0)],
@@ -187,7 +155,7 @@ mod tests {
     fn one_state(rt: HostRuntime) -> Result<(), Fail> {
         let heap = rt.alloc();
         let l = dark(heap)?;
-        let lit = words(heap, &[(ONE, 1)], &[(0, 0)])?;
+        let lit = stored(heap, &[(ONE, 1)], &[(0, 0)])?;
         closes(&rt, heap, &l, &l, Outcome::Alike, 1)?;
         let c = closes(&rt, heap, &l, &lit, Outcome::Different, 0)?;
         separates(&rt, heap, &c, &l, &lit, 2)
@@ -241,8 +209,8 @@ mod tests {
             set: 1,
             clear: 0,
         };
-        assert!(rt; ruled.load(1, 0, &[stay, go]).is_ok());
-        let stored = words(heap, &[(DARK, 1), (ONE, 3)], &[(0, 2), (1, 0), (1, 0)])?;
+        ruled.load(1, 0, &[stay, go])?;
+        let stored = stored(heap, &[(DARK, 1), (ONE, 3)], &[(0, 2), (1, 0), (1, 0)])?;
         closes(&rt, heap, &ruled, &stored, Outcome::Alike, 1)?;
         let c = closes(&rt, heap, &fresh, &ruled, Outcome::Different, 1)?;
         separates(&rt, heap, &c, &fresh, &ruled, 5)
@@ -250,15 +218,11 @@ mod tests {
 
     // A chain of 256 states; the last one shows the label and stays.
     fn chain(heap: Global, last: [u8; 4]) -> Result<StoredModel<SignalWord>, Fail> {
-        let mut states = Vec::new(heap);
-        let mut links = Vec::new(heap);
-        for s in 1..256u16 {
-            states.push((DARK, s))?;
-            links.push((s, 0))?;
-        }
+        let mut states: Vec<_> = (1..256).map(|s| (DARK, s)).collect(heap)?;
+        let mut links: Vec<_> = (1..256).map(|s| (s, 0)).collect(heap)?;
         states.push((last, 256))?;
         links.push((255, 0))?;
-        words(heap, states.as_slice(), links.as_slice())
+        stored(heap, states.as_slice(), links.as_slice())
     }
 
     // They part at the last step, or are alike.
@@ -272,20 +236,7 @@ mod tests {
         Ok(())
     }
 
-    // What each of a list of requests is answered, as numbers: a refusal as 100 its number and then its place.
-    fn number(answer: &Answer) -> usize {
-        match answer {
-            Answer::Round(n) => *n,
-            Answer::Class(c) => *c,
-            Answer::Verdict(v) => v.rounds,
-            Answer::Formula(nodes) => nodes.len(),
-            Answer::Failed(Error::Refused(e)) => 10000
-                + 100 * (e.number() as usize)
-                + e.place % 100,
-            Answer::Failed(Error::Memory) => 99999,
-        }
-    }
-
+    // What each of a list of requests is answered.
     #[test]
     fn requests(rt: HostRuntime) -> Result<(), Fail> {
         let heap = rt.alloc();
@@ -307,13 +258,30 @@ mod tests {
             Request::Formula(13),
             Request::Class(1),
         ];
-        let wanted = [0, 11804, 11900, 12000, 3, 2, 0, 4, 11702, 2, 12112, 6, 6, 1];
         let mut c = Comparison::open(heap, &l, &s)?;
         let answers = c.run(heap, &asked)?;
-        assert_eq!(rt; answers.len(), 14);
-        for (answer, want) in answers.iter().zip(wanted.iter()) {
-            assert_eq!(rt; number(answer), *want);
-        }
+        let table = c.table()?;
+        assert_eq!(rt; table.len(), 6);
+        let wanted = vec![in heap;
+            Ok(Answer::Class(0)),
+            Err(refusal(Cause::StateNumber, 4).into()),
+            Err(refusal(Cause::OpenComparison, 0).into()),
+            Err(refusal(Cause::NotDifferent, 0).into()),
+            Ok(Answer::Round(3)),
+            Ok(Answer::Class(2)),
+            Ok(Answer::Class(0)),
+            Ok(Answer::Round(4)),
+            Err(refusal(Cause::ClosedComparison, 2).into()),
+            Ok(Answer::Verdict(Verdict {
+                rounds: 2,
+                outcome: Outcome::Different,
+            })),
+            Err(refusal(Cause::FewPlaces, 12).into()),
+            Ok(Answer::Formula(Vec::from_slice(heap, table)?)),
+            Ok(Answer::Formula(Vec::from_slice(heap, table)?)),
+            Ok(Answer::Class(1)),
+        ]?;
+        assert_eq!(rt; answers, wanted);
         Ok(())
     }
 }

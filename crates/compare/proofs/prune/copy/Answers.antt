@@ -1,8 +1,9 @@
-use Rattle.std.proofs.Common.{◌≡◌, ℕ, ◌+◌, ◌<◌, Bool, List, length, get_or, vec_items, vec_capacity, sym, ap, ◌∙◌, subst, arith, length-set, rules}
+use Rattle.std.proofs.Common.{◌≡◌, ℕ, ◌+◌, ◌<◌, List, length, get_or, vec_items, sym, ap, ◌∙◌, subst, arith, length-set, rules}
 use Rattle.std.proofs.lemmas.List.{get_or_read}
 use Rattle.kripke.specs.Nodes.{blank}
 use Rattle.kripke.specs.declared.node.Node.{Node}
 use Rattle.compare.specs.Pruned.{rename, Copied}
+use Rattle.compare.proofs.Renames.{nodes_fit}
 use Rattle.compare.proofs.Copies.{copied_skip, copied_push, pruned}
 use Rattle.compare.proofs.prune.copy.Goals as goal
 use Rattle.compare.proofs.prune.copy.Goals.{then-reached-i, else-reached-i}
@@ -10,28 +11,27 @@ use Rattle.compare.proofs.prune.copy.Goals.{then-reached-i, else-reached-i}
 pub loop-i-preserved : goal.loop-i-preserved
 loop-i-preserved c =
     let p = c.args.parts.now in
-    let ns : List Node = vec_items p.nodes in
-    let ks : List Bool = c.args.reached.now in
+    let ns : List Node = vec_items p.nodes.list in
+    let ks = c.args.reached.now in
     let i : ℕ = c.loop-i.i in
     elim c.if-reached-i.branch [
       | then-reached-i w ↦
-          (let m : w.len-m.result ≡ length (vec_items c.loop-i.out) = search rules in
+          (let m : w.len-m.result ≡ length (vec_items c.loop-i.out.list) = search rules in
           let l : i < length ns = omega arith in
           let r : w.renamed.result ≡ rename c.loop-i.to (get_or ns i blank) =
-          w.renamed.ensures ∙ ap (λ (n : Node). rename c.loop-i.to n) (get_or_read ns i w.index.result.now l w.index.ensures blank) in (
+          w.renamed.ensures ∙ ap (λ (n : Node). rename c.loop-i.to n) (get_or_read ns i w.index.result.now l w.index.ensures blank) in
+          let ms : vec_items c.if-reached-i.out.list ≡ vec_items w.push_reserved.new.self = ap (λ o. vec_items o.list) w.out-is in (
             ap length w.to-is ∙ length-set c.loop-i.to i w.len-m.result ∙ c.loop-i.invariant.0,
-            omega (arith, ap (λ v. vec_capacity v) w.out-is ∙ w.push_reserved.ensures.capacity, c.loop-i.invariant.1),
-            subst (λ (z : List ℕ). Copied p.questions ns ks (i + 1) z (vec_items c.if-reached-i.out)) (sym w.to-is)
-                (copied_push p.questions ns ks i c.loop-i.to w.len-m.result (vec_items c.loop-i.out) (vec_items c.if-reached-i.out) w.renamed.result
-                p.orderly l (omega (arith, l, c.requires.few, c.loop-i.invariant.0)) (c.requires.marked.closed i (omega arith) w.if-reached-i.true) w.if-reached-i.true r m
-                (ap (λ v. vec_items v) w.out-is ∙ w.push_reserved.ensures.items) c.loop-i.invariant.2),
+            subst (λ (z : List ℕ). Copied p.questions ns ks (i + 1) z (vec_items c.if-reached-i.out.list)) (sym w.to-is)
+                (copied_push p.questions ns ks i c.loop-i.to w.len-m.result (vec_items c.loop-i.out.list) (vec_items c.if-reached-i.out.list) w.renamed.result
+                p.orderly l (omega (arith, l, nodes_fit p, c.loop-i.invariant.0)) (c.requires.marked.closed i (omega arith) w.if-reached-i.true) w.if-reached-i.true r m
+                (ms ∙ w.push_reserved.ensures.items) c.loop-i.invariant.1),
           ))
       | else-reached-i w ↦ (
         ap length w.to-is ∙ c.loop-i.invariant.0,
-        omega (arith, ap (λ v. vec_capacity v) w.out-is, c.loop-i.invariant.1),
-        subst (λ (z : List ℕ). Copied p.questions ns ks (i + 1) z (vec_items c.if-reached-i.out)) (sym w.to-is)
-            (subst (λ (z : List Node). Copied p.questions ns ks (i + 1) c.loop-i.to z) (sym (ap (λ v. vec_items v) w.out-is))
-            (copied_skip p.questions ns ks i c.loop-i.to (vec_items c.loop-i.out) w.if-reached-i.false c.loop-i.invariant.2)),
+        subst (λ (z : List ℕ). Copied p.questions ns ks (i + 1) z (vec_items c.if-reached-i.out.list)) (sym w.to-is)
+            (subst (λ (z : List Node). Copied p.questions ns ks (i + 1) c.loop-i.to z) (sym (ap (λ o. vec_items o.list) w.out-is))
+            (copied_skip p.questions ns ks i c.loop-i.to (vec_items c.loop-i.out.list) w.if-reached-i.false c.loop-i.invariant.1)),
       )
     ]
 
@@ -39,8 +39,5 @@ pub returns : goal.returns
 returns c =
     let p = c.args.parts.now in
     let e : c.loop-i.i ≡ c.args.root + 1 = omega arith in
-    record {
-      pruned = pruned p.questions (vec_items p.nodes) c.args.root c.args.reached.now c.loop-i.to (vec_items c.loop-i.out) p.orderly c.requires.inside c.requires.marked
-          (subst (λ (z : ℕ). Copied p.questions (vec_items p.nodes) c.args.reached.now z c.loop-i.to (vec_items c.loop-i.out)) e c.loop-i.invariant.2);
-      room = c.loop-i.invariant.1;
-    }
+    pruned p.questions (vec_items p.nodes.list) c.args.root c.args.reached.now c.loop-i.to (vec_items c.loop-i.out.list) p.orderly c.requires.inside c.requires.marked
+    (subst (λ (z : ℕ). Copied p.questions (vec_items p.nodes.list) c.args.reached.now z c.loop-i.to (vec_items c.loop-i.out.list)) e c.loop-i.invariant.1)

@@ -3,4 +3,4 @@ use Rattle.compare.specs.Reach.{Marking}
 use Rattle.compare.proofs.prune.reach.Given as goal
 
 abbrev pub invariant-loop-i : goal.invariant-loop-i
-invariant-loop-i l = (length l.reached ≡ 2048) × (l.i ≤ l.root + 1) × Marking (vec_items l.parts.nodes) l.root l.i l.reached
+invariant-loop-i l = (length l.reached ≡ 2048) × (l.i ≤ l.root + 1) × Marking (vec_items l.parts.nodes.list) l.root l.i l.reached

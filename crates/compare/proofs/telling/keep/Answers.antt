@@ -1,35 +1,24 @@
-use Rattle.std.proofs.Common.{ℕ, ◌<◌, length, get_or, vec_items, sym, ◌∙◌, subst, arith}
-use Rattle.std.proofs.lemmas.Bool.{not-true, not-false}
+use Rattle.std.proofs.Common.{◌≡◌, ℕ, false, true, get_or, vec_items, ◌∙◌, subst}
+use Rattle.std.proofs.lemmas.Bool.{eq-eqb, ne_eqb}
+use Rattle.refine.specs.Refinements.{first, second}
 use Rattle.refine.specs.Steps.{class_of}
+use Rattle.compare.specs.Closing.{level}
 use Rattle.compare.specs.Pruned.{Pruned}
-use Rattle.compare.proofs.Levels.{one_in, nodes_fit, kept_none, kept_some}
+use Rattle.compare.proofs.Levels.{level_at, kept_none, kept_some}
 use Rattle.compare.proofs.telling.keep.Goals as goal
 
-pub prune-requires : goal.prune-requires
-prune-requires c =
+pub returns-then-one-other : goal.returns-then-one-other
+returns-then-one-other c =
     let r = c.args.stages.now in
-    record {
-      few = nodes_fit r;
-      inside = subst (λ (i : ℕ). i < length (vec_items r.parts.nodes)) (sym c.root.ensures) (r.parts.here r.pair.first.initial (one_in r));
-      empty = c.clear.ensures.items;
-      room = omega (arith, c.clear.ensures.capacity, c.requires);
-    }
+    let e : level (first r) (second r) r.rounds ≡ false =
+    level_at r _ _ c.initial_classes-one.ensures.one c.initial_classes-one.ensures.other ∙ ne_eqb _ _ c.if-one-other.true in
+    let p = subst (λ (k : ℕ). Pruned r.parts.questions (vec_items r.parts.nodes.list) (get_or r.parts.node k 0) (vec_items c.prune.new.out.list))
+    c.initial_classes-one.ensures.one c.prune.ensures in
+    kept_some r e _ (subst (λ (q : ℕ). Pruned q (vec_items r.parts.nodes.list) (get_or r.parts.node (class_of r.parts (first r).initial) 0) (vec_items c.prune.new.out.list)) r.asks p)
 
-pub returns-then-differs : goal.returns-then-differs
-returns-then-differs c =
+pub returns-else-one-other : goal.returns-else-one-other
+returns-else-one-other c =
     let r = c.args.stages.now in
-    let ns = vec_items c.prune.new.out in
-    let p = subst (λ (i : ℕ). Pruned r.parts.questions (vec_items r.parts.nodes) i ns) c.root.ensures c.prune.ensures.pruned in
-    record {
-      kept = kept_some r (not-true _ (sym c.differs.ensures ∙ c.if-differs.true)) ns
-          (subst (λ (q : ℕ). Pruned q (vec_items r.parts.nodes) (get_or r.parts.node (class_of r.parts r.pair.first.initial) 0) ns) r.asks p);
-      room = c.prune.ensures.room;
-    }
-
-pub returns-else-differs : goal.returns-else-differs
-returns-else-differs c =
-    let r = c.args.stages.now in
-    record {
-      kept = kept_none r (not-false _ (sym c.differs.ensures ∙ c.if-differs.false)) _ c.clear.ensures.items;
-      room = omega (arith, c.clear.ensures.capacity, c.requires);
-    }
+    let e : level (first r) (second r) r.rounds ≡ true =
+    level_at r _ _ c.initial_classes-one.ensures.one c.initial_classes-one.ensures.other ∙ eq-eqb _ _ c.if-one-other.false in
+    kept_none r e _ c.clear.ensures.items
