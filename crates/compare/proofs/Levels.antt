@@ -59,6 +59,9 @@ module _ (r : Refinement) where
       (λ t. (together-T (first r) (second r) r.rounds one (size (first r) + r.pair.second.initial)).1
       (c.0 ((same-T (first r) (second r) r.rounds one r.pair.second.initial).0 t)))
 
+  pub total_few : total (first r) (second r) ≤ 512
+  total_few = omega (arith, r.long, r.parts.few)
+
   pub nodes_few : length (vec_items r.parts.nodes) + 3 ≤ 4 * total (first r) (second r)
   nodes_few = omega (arith, r.few, count_le r.parts, r.long)
 

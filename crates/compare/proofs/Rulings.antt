@@ -7,12 +7,13 @@ use Rattle.kripke.specs.Refusals.{Before, Clean, First}
 use Rattle.kripke.specs.declared.refusal.Cause.{Cause}
 use Rattle.kripke.specs.declared.refusal.Cause.TheVariants.{ClosedComparison, StateNumber, OpenComparison, NotDifferent, FewPlaces}
 use Rattle.kripke.specs.declared.refusal.Layer.TheVariants as layer
+use Rattle.kripke.specs.declared.refusal.Refusal.{Refusal}
 use Rattle.kripke.proofs.Reflect.{same-T, settled-T, or_T}
 use Rattle.kripke.proofs.Closing.{still_open, alike_agree, different_separated}
 use Rattle.refine.specs.Stages.{rested}
 use Rattle.compare.specs.Closing.{level, closed}
 use Rattle.compare.specs.Breaches as breach
-use Rattle.compare.specs.Breaches.{RoundBreach, ClassBreach, VerdictBreach, FormulaBreach, beyond, unclosed, no_difference, few}
+use Rattle.compare.specs.Breaches.{RoundBreach, ClassBreach, VerdictBreach, TableBreach, FormulaBreach, beyond, unclosed, undivided, no_difference, few}
 use Rattle.compare.specs.Answers.{Decides}
 use Rattle.compare.specs.declared.verdict.Outcome.{Outcome}
 use Rattle.compare.specs.declared.verdict.Outcome.TheVariants.{Alike, Different}
@@ -151,26 +152,40 @@ module _ (a b : Kripke) (i : ℕ) where
   pub class_clean : i < total a b → Clean (ClassBreach a b i)
   class_clean h _ _ (beyond z) = omega arith
 
+module _ (a b : Kripke) (k : ℕ) where
+  table_least : (d : Cause) (p : ℕ) → Before d p NotDifferent k → TableBreach a b k d p → ⊥
+  table_least _ _ (inl l) (undivided z) = omega arith
+  table_least _ _ (inr l) (undivided z) = omega (arith, l.1)
+
+  pub table_refused : level a b k ≡ true → First (TableBreach a b k) layer.Comparison (record { cause = NotDifferent; layer = layer.Comparison; place = k })
+  table_refused e = record { broken = undivided (λ d. d (same_of a b k e)); least = table_least; layered = refl }
+
+  pub table_clean : level a b k ≡ false → Clean (TableBreach a b k)
+  table_clean e _ _ (undivided z) = z (different_T a b k e)
+
 module _ (a b : Kripke) (k places : ℕ) where
-  formula_first : (d : Cause) (p : ℕ) → Before d p NotDifferent k → FormulaBreach a b k places d p → ⊥
-  formula_first _ _ (inl l) (no_difference z) = omega arith
-  formula_first _ _ (inr l) (no_difference z) = omega (arith, l.1)
-  formula_first _ _ (inl l) (few z) = omega arith
-  formula_first _ _ (inr l) (few z) = omega (arith, l.0)
+  formula_broken : (c : Cause) (p : ℕ) → TableBreach a b k c p → FormulaBreach a b k places c p
+  formula_broken _ _ (undivided z) = no_difference z
 
-  pub formula_refused : level a b k ≡ true → First (FormulaBreach a b k places) layer.Comparison (record { cause = NotDifferent; layer = layer.Comparison; place = k })
-  formula_refused e = record { broken = no_difference (λ d. d (same_of a b k e)); least = formula_first; layered = refl }
+  formula_least : (c : Cause) (p : ℕ) → TableBreach a b k c p → ((d : Cause) (q : ℕ) → Before d q c p → TableBreach a b k d q → ⊥)
+      → (d : Cause) (q : ℕ) → Before d q c p → FormulaBreach a b k places d q → ⊥
+  formula_least _ _ t h d q l (no_difference z) = h d q l (undivided z)
+  formula_least _ _ (undivided y) h d q (inl l) (few z) = omega arith
+  formula_least _ _ (undivided y) h d q (inr l) (few z) = omega (arith, l.0)
 
-  places_first : level a b k ≡ false → (d : Cause) (p : ℕ) → Before d p FewPlaces places → FormulaBreach a b k places d p → ⊥
-  places_first e _ _ (inl l) (no_difference z) = z (different_T a b k e)
-  places_first e _ _ (inr l) (no_difference z) = omega (arith, l.0)
-  places_first e _ _ (inl l) (few z) = omega arith
-  places_first e _ _ (inr l) (few z) = omega (arith, l.1)
+  -- Where the table is refused, so is the formula.
+  pub formula_refused : (e : Refusal) → First (TableBreach a b k) layer.Comparison e → First (FormulaBreach a b k places) layer.Comparison e
+  formula_refused e h = record { broken = formula_broken _ _ h.broken; least = formula_least _ _ h.broken h.least; layered = h.layered }
 
-  pub places_refused : level a b k ≡ false → places + 3 < 4 * total a b
+  places_least : Clean (TableBreach a b k) → (d : Cause) (p : ℕ) → Before d p FewPlaces places → FormulaBreach a b k places d p → ⊥
+  places_least h _ _ l (no_difference z) = h _ _ (undivided z)
+  places_least h _ _ (inl l) (few z) = omega arith
+  places_least h _ _ (inr l) (few z) = omega (arith, l.1)
+
+  pub places_refused : Clean (TableBreach a b k) → places + 3 < 4 * total a b
       → First (FormulaBreach a b k places) layer.Comparison (record { cause = FewPlaces; layer = layer.Comparison; place = places })
-  places_refused e h = record { broken = few h; least = places_first e; layered = refl }
+  places_refused h l = record { broken = few l; least = places_least h; layered = refl }
 
-  pub formula_clean : level a b k ≡ false → 4 * total a b ≤ places + 3 → Clean (FormulaBreach a b k places)
-  formula_clean e h _ _ (no_difference z) = z (different_T a b k e)
-  formula_clean e h _ _ (few z) = omega arith
+  pub formula_clean : Clean (TableBreach a b k) → 4 * total a b ≤ places + 3 → Clean (FormulaBreach a b k places)
+  formula_clean h l _ _ (no_difference z) = h _ _ (undivided z)
+  formula_clean h l _ _ (few z) = omega arith

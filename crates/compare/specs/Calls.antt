@@ -20,7 +20,7 @@ questions c = stages.questions c.stages
 abbrev pub rounds : Comparison → ℕ
 rounds c = c.stages.rounds
 
--- The table that a formula reading copies out.
+-- The table of the kept formula: a table reading lends it, and a formula reading copies it out.
 abbrev pub table : Comparison → List Node
 table c = vec_items c.formula
 
@@ -44,10 +44,11 @@ pub record Rounded (c d : Comparison) (n : ℕ) : Type 0 where
   pub soon : suc (rounds c) ≤ total (first c) (second c)
   pub classes : Classes (first c) (second c) (suc (rounds c)) n
 
--- There is a formula that tells the models apart, and so many places hold it.
-pub record Tellable (c : Comparison) (places : ℕ) : Type 0 where
-  pub separating : Separating (first c) (second c) (questions c) (rounds c) (table c)
-  pub fits : length (table c) ≤ places
+-- The nodes are the kept table, which tells the models apart; there are 2045 at most.
+pub record Lent (c : Comparison) (nodes : List Node) : Type 0 where
+  pub kept : nodes ≡ table c
+  pub separating : Separating (first c) (second c) (questions c) (rounds c) nodes
+  pub short : length nodes ≤ 2045
 
 -- The first n places hold the table, which tells the models apart, and the rest is as it was.
 pub record Written (c : Comparison) (before after : List Node) (n : ℕ) : Type 0 where

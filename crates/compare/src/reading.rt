@@ -1,14 +1,13 @@
 ghost use Rattle.std.specs.Prelude.{◌≡◌, ◌+◌, ◌*◌, ◌≤◌, length, take, drop};
-ghost use Rattle.compare.specs.Breaches.{FormulaBreach};
-ghost use Rattle.compare.specs.Calls.{Tellable, Written, first, rounds, second, table};
+ghost use Rattle.compare.specs.Breaches.{FormulaBreach, TableBreach};
+ghost use Rattle.compare.specs.Calls.{Lent, Written, first, rounds, second};
 ghost use Rattle.kripke.specs.Refusals.{Judged};
 ghost use Rattle.kripke.specs.declared.refusal.Layer.TheVariants as layer;
 
-use crate::calls::refusal;
 use crate::comparison::Comparison;
 use crate::telling::differs;
 use kripke::node::Node;
-use kripke::refusal::{Cause, Refusal};
+use kripke::refusal::{Cause, Layer, Refusal};
 
 // A formula of N states has at most 4 N - 3 nodes: 4 for each class but the first, and 1.
 const SPARED: usize = 3;
@@ -33,27 +32,28 @@ fn enough(states: usize) -> usize
 }
 
 impl Comparison {
-    // Is there a formula, and are so many places enough for it?
-    fn judge_formula(&self, places: usize) -> Result<(), Refusal>
-        ensures { Judged (FormulaBreach (first self.now) (second self.now) (rounds self.now) places) layer.Comparison
-            (λ _. Tellable self.now places) (Unit {0}) result }
+    // The nodes of a formula of least nesting that holds at the first model and fails at the second, 2045 at most.
+    // Refused unless the comparison is closed as different.
+    pub fn table(&self) -> Result<&[Node], Refusal>
+        ensures { Judged (TableBreach (first self.now) (second self.now) (rounds self.now)) layer.Comparison
+            (λ nodes. Lent self.now nodes.now) (Unit {0}) result }
     {
         if !differs(&self.stages) {
-            return Err(refusal(Cause::NotDifferent, self.stages.rounds));
+            return Err(Layer::Comparison.refusal(Cause::NotDifferent, self.stages.rounds));
         }
-        if places < enough(self.stages.parts.states as usize) {
-            return Err(refusal(Cause::FewPlaces, places));
-        }
-        Ok(())
+        Ok(self.formula.as_slice())
     }
 
-    // The kept formula, where there is one and so many places are enough for it.
+    // The same nodes, where so many places are enough for them.
     pub(crate) fn told(&self, places: usize) -> Result<&[Node], Refusal>
         ensures { Judged (FormulaBreach (first self.now) (second self.now) (rounds self.now) places) layer.Comparison
-            (λ t. (t.now ≡ table self.now) × Tellable self.now places) (Unit {0}) result }
+            (λ nodes. Lent self.now nodes.now × length nodes.now ≤ places) (Unit {0}) result }
     {
-        self.judge_formula(places)?;
-        Ok(self.formula.as_slice())
+        let nodes = self.table()?;
+        if places < enough(self.stages.parts.states as usize) {
+            return Err(Layer::Comparison.refusal(Cause::FewPlaces, places));
+        }
+        Ok(nodes)
     }
 
     // Writes a formula of least nesting that holds at the first model and fails at the second; how many nodes it has.

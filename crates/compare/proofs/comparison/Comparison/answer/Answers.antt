@@ -72,10 +72,9 @@ returns-in-Ok-from_slice c =
     let p : ℕ = c.in-Formula.places in
     record {
       law = law_at s s _ _ _ _ c.in-Formula.is refl (told p c.in-Ok-from_slice.v h.0
-          (subst (λ (ns : List Node). Separating (first s) (second s) (questions s) (rounds s) ns) (sym (c.in-Ok-from_slice.ensures.items ∙ h.1.0))
-          h.1.1.separating));
+          (subst (λ (ns : List Node). Separating (first s) (second s) (questions s) (rounds s) ns) (sym c.in-Ok-from_slice.ensures.items) h.1.0.separating));
       same = same_still s s refl;
-      kept = kept_formula s _ p h.0 (c.in-Ok-from_slice.ensures.items ∙ h.1.0);
+      kept = kept_formula s _ p h.0 (c.in-Ok-from_slice.ensures.items ∙ h.1.0.kept);
     }
 
 pub returns-in-Err-from_slice : goal.returns-in-Err-from_slice
