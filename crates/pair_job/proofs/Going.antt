@@ -3,7 +3,7 @@ use Rattle.std.proofs.Common.{◌≡◌, ℕ, ◌-◌, ◌<◌, ◌≤◌, sym, 
 use Rattle.std.proofs.lemmas.Bool.{cases_lt}
 use Rattle.kripke.specs.Structure.{Kripke}
 use Rattle.kripke.specs.Refusals.{Clean, First}
-use Rattle.kripke.specs.Rounds.{ClosedAfter, total}
+use Rattle.kripke.specs.Rounds.{ClosedAfter, FirstClosed, total}
 use Rattle.kripke.specs.declared.refusal.Cause.{Cause}
 use Rattle.kripke.specs.declared.refusal.Layer.TheVariants as layer
 use Rattle.kripke.specs.declared.refusal.Refusal.{Refusal}
@@ -57,7 +57,7 @@ module _ (o c d : Comparison) (going : Going o c) where
   closed_by : {a b : Kripke} {k : ℕ} {z : Cause} {p : ℕ} → RoundBreach a b k z p → ClosedAfter a b k
   closed_by (closed x) = x
 
-  pub closes : (e : Refusal) → First (RoundBreach (first c) (second c) (rounds c)) layer.Comparison e → d ≡ c → ClosedAfter (first o) (second o) (rounds d)
+  pub closes : (e : Refusal) → First (RoundBreach (first c) (second c) (rounds c)) layer.Comparison e → d ≡ c → FirstClosed (first o) (second o) (rounds d)
   closes e f is =
-      subst (λ (z : Comparison). ClosedAfter (first o) (second o) (rounds z)) (sym is)
-      (of_equal (λ a b. ClosedAfter a b (rounds c)) going.same.first_is going.same.second_is (closed_by f.broken))
+      let closed_now = of_equal (λ a b. ClosedAfter a b (rounds c)) going.same.first_is going.same.second_is (closed_by f.broken) in
+      subst (λ (z : Comparison). FirstClosed (first o) (second o) (rounds z)) (sym is) (closed_now, going.unclosed)

@@ -13,7 +13,7 @@ use report::write::report_text;
 use std::alloc::Global;
 
 // Makes rounds until one is refused, which is when the comparison is closed.
-#[tactic(auto, using(crate::proofs::Going::goes_on, crate::proofs::Going::closes))]
+#[tactic(auto, using(crate::proofs::Going::goes_on))]
 fn close(comparison: &mut Comparison)
     requires { rounds comparison.old ≡ 0 }
     ensures same { Same comparison.old comparison.new }
