@@ -8,6 +8,6 @@ use std::io::{Read, Write};
 fn main(rt: HostRuntime) -> io::Result<()> {
     let mut input = Vec::new(rt.alloc());
     rt.stdin().read_to_end(&mut input)?;
-    let text = compare_images(rt.alloc(), input.as_slice())?;
-    rt.stdout().write_all(text.as_slice())
+    let text = compare_images(rt.alloc(), &input)?;
+    rt.stdout().write_all(&text)
 }

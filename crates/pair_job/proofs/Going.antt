@@ -57,8 +57,7 @@ module _ (o c d : Comparison) (going : Going o c) where
   closed_by : {a b : Kripke} {k : ℕ} {z : Cause} {p : ℕ} → RoundBreach a b k z p → ClosedAfter a b k
   closed_by (closed x) = x
 
-  pub stops : (e : Refusal) → First (RoundBreach (first c) (second c) (rounds c)) layer.Comparison e → d ≡ c
-      → Same o d × FirstClosed (first o) (second o) (rounds d)
-  stops e f is =
-      let x = of_equal (λ a b. ClosedAfter a b (rounds c)) going.same.first_is going.same.second_is (closed_by f.broken) in
-      subst (λ (z : Comparison). Same o z × FirstClosed (first o) (second o) (rounds z)) (sym is) (going.same, (x, going.unclosed))
+  pub closes : (e : Refusal) → First (RoundBreach (first c) (second c) (rounds c)) layer.Comparison e → d ≡ c → FirstClosed (first o) (second o) (rounds d)
+  closes e f is =
+      let closed_now = of_equal (λ a b. ClosedAfter a b (rounds c)) going.same.first_is going.same.second_is (closed_by f.broken) in
+      subst (λ (z : Comparison). FirstClosed (first o) (second o) (rounds z)) (sym is) (closed_now, going.unclosed)

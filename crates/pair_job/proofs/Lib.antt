@@ -1,4 +1,4 @@
-pub mod Judging
 pub mod Going
 pub mod Reporting
-pub mod Cutting
+pub mod Pairs
+pub mod Telling

@@ -1,69 +1,39 @@
-ghost use Rattle.std.specs.Prelude.{◌≡◌, ◌≤◌, length};
-ghost use Rattle.compare.specs.Calls.{Same, first, questions, rounds, second};
+ghost use Rattle.std.specs.Prelude.{◌≡◌};
+ghost use Rattle.compare.specs.Calls.{Same, first, rounds, second};
 ghost use Rattle.kripke.specs.Rounds.{FirstClosed};
-ghost use Rattle.kripke.specs.Structure.{Lawful};
-ghost use Rattle.pair_job.specs.Reports.{Reported, Spelt};
-ghost use Rattle.report.specs.Text.{alike_text, differ_text};
-ghost use Rattle.report.specs.declared.report.Report.TheVariants.{Alike};
+ghost use Rattle.pair_job.specs.Reports.{Closed, Reported, Stands};
 
 use compare::comparison::Comparison;
 use compare::verdict::Outcome;
 use kripke::label::Label;
 use kripke::model::Model;
-use kripke::node::Node;
-use kripke::refusal::Error;
+use kripke::refusal::{Error, Refusal};
 use report::report::Report;
 use report::write::report_text;
 use std::alloc::Global;
 
 // Makes rounds until one is refused, which is when the comparison is closed.
+#[tactic(auto, using(crate::proofs::Going::goes_on))]
 fn close(comparison: &mut Comparison)
     requires { rounds comparison.old ≡ 0 }
     ensures same { Same comparison.old comparison.new }
     ensures closed { FirstClosed (first comparison.old) (second comparison.old) (rounds comparison.new) }
 {
-    while comparison.round().is_ok() {}
+    while let Ok(_) = comparison.round() {}
 }
 
-fn alike<'a>(rounds: u16) -> Report<'a>
-    ensures { result ≡ Alike rounds }
-{
-    Report::Alike { rounds }
-}
-
-// The texts of the two reports.
-fn alike_text(heap: Global, rounds: u16) -> Result<Vec<u8>, Error>
-    ensures { Spelt (alike_text rounds) result }
-{
-    report_text(heap, alike(rounds))
-}
-
-fn different_text(heap: Global, rounds: u16, nodes: &[Node]) -> Result<Vec<u8>, Error>
-    requires { length nodes.now ≤ 2045 }
-    ensures { Spelt (differ_text rounds nodes.now) result }
-{
-    report_text(heap, Report::Different { rounds, nodes })
-}
-
-// The report of a comparison that is closed.
-fn tell(heap: Global, comparison: &Comparison) -> Result<Vec<u8>, Error>
-    requires first { Lawful (questions comparison.now) (first comparison.now) }
-    requires second { Lawful (questions comparison.now) (second comparison.now) }
-    requires closed { FirstClosed (first comparison.now) (second comparison.now) (rounds comparison.now) }
-    ensures { Reported (questions comparison.now) (first comparison.now) (second comparison.now) result }
+// The report of a closed comparison, whose readings refuse nothing.
+fn report(comparison: &Comparison) -> Result<Report<'_>, Refusal>
+    requires { Closed comparison.now }
+    ensures { Stands comparison.now result }
 {
     let verdict = comparison.verdict()?;
     let rounds = verdict.rounds as u16;
     match verdict.outcome {
-        Outcome::Alike => alike_text(heap, rounds),
+        Outcome::Alike => Ok(Report::Alike { rounds }),
         Outcome::Different => {
-            let mut places = [Node {
-                code: 0,
-                a: 0,
-                b: 0,
-            }; 2045];
-            let count = comparison.formula(&mut places)?;
-            different_text(heap, rounds, &places[0..count])
+            let nodes = comparison.table()?;
+            Ok(Report::Different { rounds, nodes })
         }
     }
 }
@@ -78,5 +48,5 @@ pub(crate) fn report_models<L: Label, M: Model<Label = L>, N: Model<Label = L>>(
 {
     let mut comparison = Comparison::open(heap, first, second)?;
     close(&mut comparison);
-    tell(heap, &comparison)
+    report_text(heap, report(&comparison)?)
 }

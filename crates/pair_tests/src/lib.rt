@@ -9,39 +9,14 @@ mod tests {
     use std::process::Abort;
     use std::test::Fail;
 
-    // One state, its own successor, whose four label bytes are given.
-    fn push_loop(input: &mut Vec<u8>, kind: u8, label: [u8; 4]) -> Result<(), Fail> {
-        for byte in [kind, 0, 1, 0, 1, 0, 0, 0] {
-            input.push(byte)?;
-        }
-        for byte in label {
-            input.push(byte)?;
-        }
-        for byte in [1, 0, 0, 0, 0, 0, 0, 0] {
-            input.push(byte)?;
-        }
-        Ok(())
-    }
+    // The kind bytes of signal words and of readings, and one that is no kind's.
+    const SIGNAL_WORDS: u8 = 1;
 
-    // Two images of one looping state each.
-    fn loops(
-        heap: Global,
-        kinds: [u8; 2],
-        first: [u8; 4],
-        second: [u8; 4],
-    ) -> Result<Vec<u8>, Fail> {
-        let mut input = Vec::new(heap);
-        push_loop(&mut input, kinds[0], first)?;
-        push_loop(&mut input, kinds[1], second)?;
-        Ok(input)
-    }
+    const READINGS: u8 = 2;
 
-    fn tells(rt: &impl Abort, heap: Global, input: &[u8], expected: &[u8]) -> Result<(), Fail> {
-        let text = compare_images(heap, input)?;
-        assert!(rt; text.as_slice() == expected);
-        Ok(())
-    }
+    const NO_KIND: u8 = 3;
 
+    // The label bytes of signal words, and of readings.
     const DARK: [u8; 4] = [0, 0, 0, 0];
 
     const LIT: [u8; 4] = [1, 0, 0, 0];
@@ -50,90 +25,79 @@ mod tests {
 
     const ALARM: [u8; 4] = [60, 5, 50, 60];
 
-    #[test]
-    fn reports(rt: HostRuntime) -> Result<(), Fail> {
-        let heap = rt.alloc();
-        tells(
-            &rt,
-            heap,
-            loops(heap, [1, 1], DARK, DARK)?.as_slice(),
-            b"alike 1\n",
-        )?;
-        tells(
-            &rt,
-            heap,
-            loops(heap, [2, 2], FAULT, FAULT)?.as_slice(),
-            b"alike 1\n",
-        )?;
-        tells(
-            &rt,
-            heap,
-            loops(heap, [1, 1], LIT, DARK)?.as_slice(),
-            b"differ 0 1\n0 1 0 0\n",
-        )?;
-        tells(
-            &rt,
-            heap,
-            loops(heap, [1, 1], DARK, LIT)?.as_slice(),
-            b"differ 0 2\n0 1 0 0\n1 2 0 0\n",
-        )?;
-        tells(
-            &rt,
-            heap,
-            loops(heap, [2, 2], ALARM, FAULT)?.as_slice(),
-            b"differ 0 2\n0 1 0 0\n1 2 0 0\n",
-        )
+    // The image of one state, its own successor.
+    fn image(kind: u8, label: [u8; 4]) -> [u8; 20] {
+        let [a, b, c, d] = label;
+        [
+            kind, 0, 1, 0, 1, 0, 0, 0, a, b, c, d, 1, 0, 0, 0, 0, 0, 0, 0,
+        ]
+    }
+
+    // Two images, one after the other.
+    fn pair(first: [u8; 20], second: [u8; 20]) -> [u8; 40] {
+        let mut input = [0; 40];
+        input[..20].copy_from_slice(&first);
+        input[20..].copy_from_slice(&second);
+        input
+    }
+
+    // Each input is told as the text beside it.
+    fn told(rt: &impl Abort, heap: Global, cases: &[(&[u8], &str)]) -> Result<(), Fail> {
+        for (input, expected) in cases {
+            let text = compare_images(heap, input)?;
+            assert!(rt; text.as_slice() == expected.as_bytes());
+        }
+        Ok(())
     }
 
     #[test]
-    fn refusals(rt: HostRuntime) -> Result<(), Fail> {
-        let heap = rt.alloc();
-        tells(&rt, heap, b"", b"refused 1 1 0\n")?;
-        tells(&rt, heap, b"\x01", b"refused 1 1 1\n")?;
-        tells(
-            &rt,
-            heap,
-            b"\x09\x00\x01\x00\x01\x00\x00\x00",
-            b"refused 2 1 0\n",
-        )?;
-        tells(
-            &rt,
-            heap,
-            b"\x01\x00\x01\x00\x01\x00\x00\x00",
-            b"refused 3 1 20\n",
-        )?;
-        let pair = loops(heap, [1, 1], DARK, DARK)?;
-        assert!(rt; pair.len() == 40);
-        tells(&rt, heap, &pair.as_slice()[0..19], b"refused 3 1 20\n")?;
-        tells(&rt, heap, &pair.as_slice()[0..20], b"refused 1 2 0\n")?;
-        tells(&rt, heap, &pair.as_slice()[0..27], b"refused 1 2 7\n")?;
-        tells(&rt, heap, &pair.as_slice()[0..39], b"refused 3 2 20\n")?;
-        let mut longer = loops(heap, [1, 1], DARK, DARK)?;
-        longer.push(0)?;
-        tells(&rt, heap, longer.as_slice(), b"refused 3 2 20\n")?;
-        tells(
-            &rt,
-            heap,
-            loops(heap, [1, 2], DARK, FAULT)?.as_slice(),
-            b"refused 2 2 0\n",
-        )?;
-        tells(
-            &rt,
-            heap,
-            loops(heap, [2, 1], FAULT, DARK)?.as_slice(),
-            b"refused 2 2 0\n",
-        )?;
-        tells(
-            &rt,
-            heap,
-            loops(heap, [3, 3], DARK, DARK)?.as_slice(),
-            b"refused 2 1 0\n",
-        )?;
-        tells(
-            &rt,
-            heap,
-            loops(heap, [2, 2], FAULT, DARK)?.as_slice(),
-            b"refused 4 2 8\n",
-        )
+    fn reports(rt: HostRuntime) -> Result<(), Fail> {
+        let dark = image(SIGNAL_WORDS, DARK);
+        let lit = image(SIGNAL_WORDS, LIT);
+        let fault = image(READINGS, FAULT);
+        let alarm = image(READINGS, ALARM);
+        let cases: [(&[u8], &str); 5] = [
+            (&pair(dark, dark), "alike 1\n"),
+            (&pair(fault, fault), "alike 1\n"),
+            (&pair(lit, dark), "differ 0 1\n0 1 0 0\n"),
+            (&pair(dark, lit), "differ 0 2\n0 1 0 0\n1 2 0 0\n"),
+            (&pair(alarm, fault), "differ 0 2\n0 1 0 0\n1 2 0 0\n"),
+        ];
+        told(&rt, rt.alloc(), &cases)
+    }
+
+    #[test]
+    fn lengths(rt: HostRuntime) -> Result<(), Fail> {
+        let dark = image(SIGNAL_WORDS, DARK);
+        let input = pair(dark, dark);
+        let mut longer = [0; 41];
+        longer[..40].copy_from_slice(&input);
+        let cases: [(&[u8], &str); 9] = [
+            (b"", "refused 1 1 0\n"),
+            (b"\x01", "refused 1 1 1\n"),
+            (b"\x09\x00\x01\x00\x01\x00\x00\x00", "refused 2 1 0\n"),
+            (b"\x01\x00\x01\x00\x01\x00\x00\x00", "refused 3 1 20\n"),
+            (&input[..19], "refused 3 1 20\n"),
+            (&input[..20], "refused 1 2 0\n"),
+            (&input[..27], "refused 1 2 7\n"),
+            (&input[..39], "refused 3 2 20\n"),
+            (&longer, "refused 3 2 20\n"),
+        ];
+        told(&rt, rt.alloc(), &cases)
+    }
+
+    #[test]
+    fn kinds_and_labels(rt: HostRuntime) -> Result<(), Fail> {
+        let dark = image(SIGNAL_WORDS, DARK);
+        let fault = image(READINGS, FAULT);
+        let unknown = image(NO_KIND, DARK);
+        let no_reading = image(READINGS, DARK);
+        let cases: [(&[u8], &str); 4] = [
+            (&pair(dark, fault), "refused 2 2 0\n"),
+            (&pair(fault, dark), "refused 2 2 0\n"),
+            (&pair(unknown, unknown), "refused 2 1 0\n"),
+            (&pair(fault, no_reading), "refused 4 2 8\n"),
+        ];
+        told(&rt, rt.alloc(), &cases)
     }
 }

@@ -1,21 +1,23 @@
-ghost use Rattle.std.specs.Prelude.{ℕ, ◌^◌, ◌<◌, ◌≤◌, length, slice_index_or};
-ghost use Rattle.rules.specs.Limits.{blank};
+ghost use Rattle.std.specs.List.{All};
+ghost use Rattle.arrayvec.specs.ArrayVec.{array_vec_len};
+ghost use Rattle.rules.specs.Limits.{LawfulRule, Limits};
 
 use crate::rule::Rule;
+use arrayvec::ArrayVec;
 
-// A model of 2 ^ bits states that is given by the first `count` of its rules.
+// The most bits and the most rules of a model.
+pub const MOST_BITS: usize = 8;
+
+pub const MOST_RULES: usize = 16;
+
+// A model of 2 ^ bits states that is given by its rules.
 #[derive(Drop)]
 pub struct RuleModel {
     bits: usize,
     initial: usize,
-    count: usize,
-    rules: [Rule; 16],
-    ghost some: { 1 ≤ bits },
-    ghost few: { bits ≤ 8 },
-    ghost begins: { initial < 2 ^ bits },
-    ghost counted: { count ≤ 16 },
-    ghost room: { count ≤ length rules },
-    ghost inside: { (i : ℕ) → i < count → (slice_index_or rules i blank).set < 2 ^ bits },
+    rules: ArrayVec<Rule, MOST_RULES>,
+    ghost within: { Limits bits initial (array_vec_len rules) },
+    ghost lawful: { All (LawfulRule bits) rules.items },
 }
 
 mod asks;

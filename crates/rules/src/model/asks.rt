@@ -1,38 +1,38 @@
-ghost use Rattle.std.specs.Prelude.{◌≡◌, ◌^◌, if◌then◌else◌, nat_lt};
-ghost use Rattle.rules.specs.Held.{held, meaning_of, nth as nth_of};
+ghost use Rattle.std.specs.Prelude.{◌≡◌, ◌^◌};
+ghost use Rattle.std.specs.List.{slice_get};
+ghost use Rattle.rules.specs.Meaning.{meaning_of};
 ghost use Rattle.rules.specs.Rules.{moves};
-ghost use Rattle.std.proofs.Common.{arith};
-ghost use Rattle.std.proofs.lemmas.List.{length-take-le};
 ghost use Rattle.rules.specs.Structures;
-ghost use Rattle.rules.specs.Structures.{held_inside};
+ghost use Rattle.rules.specs.Structures.{seat as seat_of};
 
 use super::RuleModel;
 use kripke::model::Model as KripkeModel;
 use labels::signal::SignalWord;
 
 impl RuleModel {
+    // The number of states.
+    fn size(&self) -> usize
+        ensures { result ≡ 2 ^ self.now.bits }
+    {
+        1 << self.bits
+    }
+
     // The number of state s, and past the last that of state 0.
     fn seat(&self, s: usize) -> u8
-        ensures { result ≡ (if nat_lt s (2 ^ self.now.bits) then s else 0) }
+        ensures { result ≡ seat_of self.now.bits s }
     {
-        if s < 1 << self.bits { s as u8 } else { 0 }
+        if s < self.size() { s as u8 } else { 0 }
     }
 
     // Where the rule leads that is the i-th of those that apply in s.
     fn nth(&self, s: u8, i: usize) -> Option<u8>
-        ensures { result ≡ nth_of (moves (held self.now) s) i }
+        ensures { result ≡ slice_get (moves self.now.rules.items s) i }
     {
-        let mut left = i;
-        for j in 0..self.count {
-            let rule = self.rules[j];
-            if rule.applies(s) {
-                if left == 0 {
-                    return Some(rule.leads(s));
-                }
-                left -= 1;
-            }
-        }
-        None
+        self.rules
+            .iter()
+            .filter(|rule| rule.applies(s))
+            .map(|rule| rule.leads(s))
+            .nth(i)
     }
 }
 
@@ -41,41 +41,33 @@ impl KripkeModel for RuleModel {
 
     ghost meaning = { meaning_of };
 
-    ghost lawful = { λ m.
-        Structures.lawful m.bits m.initial (held m) m.some m.few m.begins (omega (arith, length-take-le m.count m.rules m.room, m.counted))
-        (held_inside m.bits m.count m.rules m.room m.inside) };
+    ghost lawful = { λ m. Structures.lawful m.bits m.rules.items m.initial m.within m.lawful };
 
+    #[tactic(auto, using(crate::specs::Structures::size_is))]
     fn states(&self) -> usize {
-        1 << self.bits
+        self.size()
     }
 
     fn initial(&self) -> usize {
         self.initial
     }
 
+    #[tactic(auto, using(crate::specs::Structures::answers_are))]
     fn label(&self, s: usize) -> SignalWord {
-        SignalWord(self.seat(s) as u32)
+        SignalWord(u32::from(self.seat(s)))
     }
 
+    #[tactic(auto, using(crate::specs::Structures::degree_is, crate::specs::Moves::length_moves))]
     fn degree(&self, s: usize) -> usize {
         let s = self.seat(s);
-        let mut count = 0;
-        for j in 0..self.count {
-            if self.rules[j].applies(s) {
-                count += 1;
-            }
-        }
-        if count == 0 { 1 } else { count }
+        let moves = self.rules.iter().filter(|rule| rule.applies(s)).count();
+        moves.max(1)
     }
 
+    #[tactic(auto, using(crate::specs::Structures::successor_is))]
     fn successor(&self, s: usize, i: usize) -> usize {
         let s = self.seat(s);
-        if let Some(t) = self.nth(s, i) {
-            return t as usize;
-        }
-        match self.nth(s, 0) {
-            Some(t) => t as usize,
-            None => s as usize,
-        }
+        let t = self.nth(s, i).or_else(|| self.nth(s, 0)).unwrap_or(s);
+        usize::from(t)
     }
 }

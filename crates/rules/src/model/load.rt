@@ -1,50 +1,30 @@
-ghost use Rattle.std.specs.Prelude.{◌≡◌, ◌≤◌, [], Err, MatchBool};
+ghost use Rattle.std.specs.Prelude.{◌≡◌, ◌≤◌, [], length, MatchOption};
 ghost use Rattle.kripke.specs.Refusals.{Judged};
 ghost use Rattle.kripke.specs.declared.refusal.Layer.TheVariants as layer;
-ghost use Rattle.rules.specs.Held.{held, meaning_of};
-ghost use Rattle.rules.specs.Limits.{Breach, Limits, Ready};
+ghost use Rattle.rules.specs.Meaning.{meaning_of};
+ghost use Rattle.rules.specs.Limits.{Breach, FirstUnlawful, Limits};
 ghost use Rattle.rules.specs.Rules.{structure};
 
-use super::RuleModel;
+use super::{MOST_BITS, MOST_RULES, RuleModel};
 use crate::rule::Rule;
+use arrayvec::ArrayVec;
 use kripke::refusal::{Cause, Layer, Refusal};
 
-const BLANK: Rule = Rule {
-    care: 0,
-    need: 0,
-    set: 0,
-    clear: 0,
-};
-
-fn within_limits(bits: usize, initial: usize, count: usize) -> bool
-    ensures { MatchBool result (Limits bits initial count) (Limits bits initial count → ⊥) }
+// The rules as a model holds them; none where the numbers are not within their limits.
+fn within_limits(bits: usize, initial: usize, rules: &[Rule]) -> Option<ArrayVec<Rule, MOST_RULES>>
+    ensures { MatchOption result (Limits bits initial (length rules.now) → ⊥) (λ held. Limits bits initial (length rules.now) × (held.items ≡ rules.now)) }
 {
-    1 <= bits && bits <= 8 && count <= 16 && initial < 1 << bits
+    let held = ArrayVec::try_from(rules).ok()?;
+    let in_range = (1..=MOST_BITS).contains(&bits) && initial < 1 << bits;
+    in_range.then_some(held)
 }
 
-fn refuse(cause: Cause, place: usize) -> Result<(), Refusal>
-    ensures { result ≡ Err (record { cause = cause; layer = layer.Rules; place = place }) }
+// The first rule that is not lawful; none exactly when all are.
+fn first_unlawful(bits: usize, rules: &[Rule]) -> Option<usize>
+    requires { bits ≤ 8 }
+    ensures { FirstUnlawful bits rules.now result }
 {
-    Err(Refusal {
-        cause,
-        layer: Layer::Rules,
-        place,
-    })
-}
-
-// Refuses what is no rule model.
-fn check(bits: usize, initial: usize, rules: &[Rule]) -> Result<(), Refusal>
-    ensures { Judged (Breach bits initial rules.now) layer.Rules (λ _. Ready bits initial rules.now) (Unit {0}) result }
-{
-    if !within_limits(bits, initial, rules.len()) {
-        return refuse(Cause::RuleLimits, 0);
-    }
-    for i in 0..rules.len() {
-        if !rules[i].lawful(bits) {
-            return refuse(Cause::UnlawfulRule, i);
-        }
-    }
-    Ok(())
+    rules.iter().position(|rule| !rule.lawful(bits))
 }
 
 impl RuleModel {
@@ -55,8 +35,25 @@ impl RuleModel {
         RuleModel {
             bits: 1,
             initial: 0,
-            count: 0,
-            rules: [BLANK; 16],
+            rules: ArrayVec::new(),
+        }
+    }
+
+    // The model of so many bits with these rules.
+    #[tactic(auto, using(crate::proofs::Breaches::first_limits, crate::proofs::Breaches::clean))]
+    fn given(bits: usize, initial: usize, rules: &[Rule]) -> Result<RuleModel, Refusal>
+        ensures { Judged (Breach bits initial rules.now) layer.Rules (λ model. meaning_of model ≡ structure bits initial rules.now) (Unit {0}) result }
+    {
+        let Some(held) = within_limits(bits, initial, rules) else {
+            return Err(Layer::Rules.refusal(Cause::RuleLimits, 0));
+        };
+        match first_unlawful(bits, rules) {
+            Some(i) => Err(Layer::Rules.refusal(Cause::UnlawfulRule, i)),
+            None => Ok(RuleModel {
+                bits,
+                initial,
+                rules: held,
+            }),
         }
     }
 
@@ -64,17 +61,7 @@ impl RuleModel {
     pub fn load(&mut self, bits: usize, initial: usize, rules: &[Rule]) -> Result<(), Refusal>
         ensures { Judged (Breach bits initial rules.now) layer.Rules (λ _. meaning_of self.new ≡ structure bits initial rules.now) (self.new ≡ self.old) result }
     {
-        check(bits, initial, rules)?;
-        let mut own = [BLANK; 16];
-        for i in 0..rules.len() {
-            own[i] = rules[i];
-        }
-        *self = RuleModel {
-            bits,
-            initial,
-            count: rules.len(),
-            rules: own,
-        };
+        *self = RuleModel::given(bits, initial, rules)?;
         Ok(())
     }
 }
