@@ -1,68 +1,97 @@
 // A model as text: a listing, or a graph for Graphviz.
-use crate::failure::Failure;
 use kripke::label::Label;
 use kripke::model::Model;
-use std::alloc::Global;
-use std::fmt::Write;
+use std::fmt;
 
-// The questions that a state answers yes, each after a space.
-fn push_answers<M: Model>(out: &mut String, model: &M, s: usize) -> Result<(), Failure> {
-    let label = model.label(s);
-    for i in 0..M::Label::questions() {
-        if label.answer(i) {
-            write!(out, " q{i}")?;
+// The questions that a label answers yes, each after a space.
+#[derive(Drop)]
+struct Answers<L>(L);
+
+impl<L: Label> fmt::Display for Answers<L> {
+    fn fmt<W: fmt::Write>(&self, f: &mut fmt::Formatter<W>) -> fmt::Result {
+        for i in (0..L::questions()).filter(|i| self.0.answer(*i)) {
+            write!(f, " q{i}")?;
         }
+        Ok(())
     }
-    Ok(())
 }
 
-fn push_state<M: Model>(out: &mut String, model: &M, s: usize) -> Result<(), Failure> {
-    write!(out, "state {s}:")?;
-    push_answers(out, model, s)?;
-    out.push_str(" ->")?;
-    for i in 0..model.degree(s) {
-        let next = model.successor(s, i);
-        write!(out, " {next}")?;
+// The successors of a state, each after a space.
+#[derive(Drop)]
+struct Successors<'a, M> {
+    model: &'a M,
+    state: usize,
+}
+
+impl<'a, M: Model> fmt::Display for Successors<'a, M> {
+    fn fmt<W: fmt::Write>(&self, f: &mut fmt::Formatter<W>) -> fmt::Result {
+        for i in 0..self.model.degree(self.state) {
+            write!(f, " {}", self.model.successor(self.state, i))?;
+        }
+        Ok(())
     }
-    out.push_str("\n")?;
-    Ok(())
 }
 
 // The kind, the number of states and the initial state, and then a line a state.
-pub(crate) fn listing<M: Model>(heap: Global, kind: &str, model: &M) -> Result<String, Failure> {
-    let mut out = String::new(heap);
-    let states = model.states();
-    let initial = model.initial();
-    writeln!(out, "{kind}, {states} states, initial state {initial}")?;
-    for s in 0..states {
-        push_state(&mut out, model, s)?;
-    }
-    Ok(out)
+#[derive(Drop)]
+pub(crate) struct Listing<'a, K, M> {
+    pub(crate) kind: K,
+    pub(crate) model: &'a M,
 }
 
-fn push_edges<M: Model>(out: &mut String, model: &M, s: usize) -> Result<(), Failure> {
-    let shape = if s == model.initial() {
-        ", shape=doublecircle"
-    } else {
-        ""
-    };
-    write!(out, "    {s} [label=\"{s}")?;
-    push_answers(out, model, s)?;
-    writeln!(out, "\"{shape}];")?;
-    for i in 0..model.degree(s) {
-        let next = model.successor(s, i);
-        writeln!(out, "    {s} -> {next};")?;
+impl<'a, K: fmt::Display, M: Model> fmt::Display for Listing<'a, K, M> {
+    fn fmt<W: fmt::Write>(&self, f: &mut fmt::Formatter<W>) -> fmt::Result {
+        let Listing { kind, model } = self;
+        let (states, initial) = (model.states(), model.initial());
+        writeln!(f, "{kind}, {states} states, initial state {initial}")?;
+        for state in 0..states {
+            let answers = Answers(model.label(state));
+            let successors = Successors {
+                model: *model,
+                state,
+            };
+            writeln!(f, "state {state}:{answers} ->{successors}")?;
+        }
+        Ok(())
     }
-    Ok(())
 }
 
-// The graph of the model, the initial state in a double circle, labels as the questions answered yes.
-pub(crate) fn graph<M: Model>(heap: Global, model: &M) -> Result<String, Failure> {
-    let mut out = String::new(heap);
-    out.push_str("digraph panel {\n")?;
-    for s in 0..model.states() {
-        push_edges(&mut out, model, s)?;
+// A state of the graph, in a double circle where it is initial, and its edges.
+#[derive(Drop)]
+struct Vertex<'a, M> {
+    model: &'a M,
+    state: usize,
+}
+
+impl<'a, M: Model> fmt::Display for Vertex<'a, M> {
+    fn fmt<W: fmt::Write>(&self, f: &mut fmt::Formatter<W>) -> fmt::Result {
+        let (model, state) = (self.model, self.state);
+        let answers = Answers(model.label(state));
+        let shape = if state == model.initial() {
+            ", shape=doublecircle"
+        } else {
+            ""
+        };
+        writeln!(f, "    {state} [label=\"{state}{answers}\"{shape}];")?;
+        for i in 0..model.degree(state) {
+            let next = model.successor(state, i);
+            writeln!(f, "    {state} -> {next};")?;
+        }
+        Ok(())
     }
-    out.push_str("}\n")?;
-    Ok(out)
+}
+
+// The graph of the model, labels as the questions answered yes.
+#[derive(Drop)]
+pub(crate) struct Graph<'a, M>(pub(crate) &'a M);
+
+impl<'a, M: Model> fmt::Display for Graph<'a, M> {
+    fn fmt<W: fmt::Write>(&self, f: &mut fmt::Formatter<W>) -> fmt::Result {
+        let model = self.0;
+        f.write_str("digraph panel {\n")?;
+        for state in 0..model.states() {
+            write!(f, "{}", Vertex { model, state })?;
+        }
+        f.write_str("}\n")
+    }
 }
