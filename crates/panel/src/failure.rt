@@ -7,7 +7,7 @@ use std::{fmt, io};
 
 // Why a command gives no answer.
 #[derive(Drop)]
-pub enum Failure {
+pub(crate) enum Failure {
     // The words are no command.
     Misused,
     // The word is no number.

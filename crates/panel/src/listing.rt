@@ -16,22 +16,6 @@ impl<L: Label> fmt::Display for Answers<L> {
     }
 }
 
-// The successors of a state, each after a space.
-#[derive(Drop)]
-struct Successors<'a, M> {
-    model: &'a M,
-    state: usize,
-}
-
-impl<'a, M: Model> fmt::Display for Successors<'a, M> {
-    fn fmt<W: fmt::Write>(&self, f: &mut fmt::Formatter<W>) -> fmt::Result {
-        for i in 0..self.model.degree(self.state) {
-            write!(f, " {}", self.model.successor(self.state, i))?;
-        }
-        Ok(())
-    }
-}
-
 // The kind, the number of states and the initial state, and then a line a state.
 #[derive(Drop)]
 pub(crate) struct Listing<'a, K, M> {
@@ -39,58 +23,62 @@ pub(crate) struct Listing<'a, K, M> {
     pub(crate) model: &'a M,
 }
 
+// A state, the questions that it answers yes, and its successors.
+fn write_line<M: Model, W: fmt::Write>(
+    f: &mut fmt::Formatter<W>,
+    model: &M,
+    s: usize,
+) -> fmt::Result {
+    write!(f, "state {s}:{} ->", Answers(model.label(s)))?;
+    for next in (0..model.degree(s)).map(|i| model.successor(s, i)) {
+        write!(f, " {next}")?;
+    }
+    writeln!(f)
+}
+
 impl<'a, K: fmt::Display, M: Model> fmt::Display for Listing<'a, K, M> {
     fn fmt<W: fmt::Write>(&self, f: &mut fmt::Formatter<W>) -> fmt::Result {
         let Listing { kind, model } = self;
         let (states, initial) = (model.states(), model.initial());
         writeln!(f, "{kind}, {states} states, initial state {initial}")?;
-        for state in 0..states {
-            let answers = Answers(model.label(state));
-            let successors = Successors {
-                model: *model,
-                state,
-            };
-            writeln!(f, "state {state}:{answers} ->{successors}")?;
+        for s in 0..states {
+            write_line(f, *model, s)?;
         }
         Ok(())
     }
 }
 
-// A state of the graph, in a double circle where it is initial, and its edges.
-#[derive(Drop)]
-struct Vertex<'a, M> {
-    model: &'a M,
-    state: usize,
-}
-
-impl<'a, M: Model> fmt::Display for Vertex<'a, M> {
-    fn fmt<W: fmt::Write>(&self, f: &mut fmt::Formatter<W>) -> fmt::Result {
-        let (model, state) = (self.model, self.state);
-        let answers = Answers(model.label(state));
-        let shape = if state == model.initial() {
-            ", shape=doublecircle"
-        } else {
-            ""
-        };
-        writeln!(f, "    {state} [label=\"{state}{answers}\"{shape}];")?;
-        for i in 0..model.degree(state) {
-            let next = model.successor(state, i);
-            writeln!(f, "    {state} -> {next};")?;
-        }
-        Ok(())
-    }
-}
-
-// The graph of the model, labels as the questions answered yes.
+// The graph of a model, the initial state in a double circle, labels as the questions answered yes.
 #[derive(Drop)]
 pub(crate) struct Graph<'a, M>(pub(crate) &'a M);
 
+// A state and its edges.
+fn write_vertex<M: Model, W: fmt::Write>(
+    f: &mut fmt::Formatter<W>,
+    model: &M,
+    s: usize,
+) -> fmt::Result {
+    let shape = if s == model.initial() {
+        ", shape=doublecircle"
+    } else {
+        ""
+    };
+    writeln!(
+        f,
+        "    {s} [label=\"{s}{}\"{shape}];",
+        Answers(model.label(s))
+    )?;
+    for next in (0..model.degree(s)).map(|i| model.successor(s, i)) {
+        writeln!(f, "    {s} -> {next};")?;
+    }
+    Ok(())
+}
+
 impl<'a, M: Model> fmt::Display for Graph<'a, M> {
     fn fmt<W: fmt::Write>(&self, f: &mut fmt::Formatter<W>) -> fmt::Result {
-        let model = self.0;
         f.write_str("digraph panel {\n")?;
-        for state in 0..model.states() {
-            write!(f, "{}", Vertex { model, state })?;
+        for s in 0..self.0.states() {
+            write_vertex(f, self.0, s)?;
         }
         f.write_str("}\n")
     }

@@ -6,18 +6,18 @@ use std::fmt;
 enum Fault {
     NoLabel,
     NoLink,
-    NullLink,
-    NoZeros,
+    UnknownLink,
+    Remainder,
 }
 
 impl Fault {
-    // By the record's bytes: four of its label, two of its number of links, two of its first link.
+    // A record has four bytes of its label, two of its first link, and two that are zero.
     fn of<L: Coded>(record: &[u8]) -> Fault {
         match record {
             [a, b, c, d, ..] if L::decode([*a, *b, *c, *d]).is_none() => Fault::NoLabel,
             [_, _, _, _, 0, 0, ..] => Fault::NoLink,
-            [_, _, _, _, _, _, 0, 0, ..] => Fault::NullLink,
-            _ => Fault::NoZeros,
+            [_, _, _, _, _, _, 0, 0, ..] => Fault::UnknownLink,
+            _ => Fault::Remainder,
         }
     }
 }
@@ -25,18 +25,18 @@ impl Fault {
 impl fmt::Display for Fault {
     fn fmt<W: fmt::Write>(&self, f: &mut fmt::Formatter<W>) -> fmt::Result {
         f.write_str(match self {
-            // Of readings alone, since any four bytes are signal words.
+            // Any four bytes are signal words, so it is a reading.
             Fault::NoLabel => "has limits that do not rise",
             Fault::NoLink => "has no first link",
-            Fault::NullLink => "has a first link that is none",
-            Fault::NoZeros => "has last bytes that are not zero",
+            Fault::UnknownLink => "has a first link that is none",
+            Fault::Remainder => "has last bytes that are not zero",
         })
     }
 }
 
 // A state record that is not in order, by its number.
 #[derive(Clone, Copy)]
-pub struct BadRecord {
+pub(crate) struct BadRecord {
     number: usize,
     fault: Fault,
 }

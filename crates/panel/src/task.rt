@@ -18,7 +18,7 @@ use std::fmt;
 
 // A listing, a graph, or a condition to check.
 #[derive(Clone, Copy)]
-pub enum Task<'a> {
+pub(crate) enum Task<'a> {
     List,
     Graph,
     Check(&'a str),
