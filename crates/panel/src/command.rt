@@ -69,6 +69,7 @@ pub(crate) fn run(rt: &HostRuntime, words: &[&str]) -> Result<String, Failure> {
         [_, "show", "--dot", path] => on_file(rt, path, Task::Graph),
         [_, "show", path] => on_file(rt, path, Task::List),
         [_, "rules", "--dot", words @ ..] => on_rules(heap, words, Task::Graph),
+        // No condition, and so no numbers.
         [_, "rules", "--check"] => on_rules(heap, &[], Task::List),
         [_, "rules", "--check", condition, words @ ..] => on_rules(
             heap,

@@ -14,33 +14,37 @@ use labels::kind::Kind;
 use labels::reading::Reading;
 use labels::signal::SignalWord;
 use printer::print_formula;
-use std::alloc::Global;
-use std::fmt::Write;
+use std::alloc::{AllocError, Global};
+use std::fmt;
 
 // Makes rounds until one is refused, which is when the comparison is closed.
 fn close(comparison: &mut Comparison) {
     while comparison.round().is_ok() {}
 }
 
+// A table of nodes, a line a node.
+#[derive(Drop)]
+struct Table<'a>(&'a [Node]);
+
+impl<'a> fmt::Display for Table<'a> {
+    fn fmt<W: fmt::Write>(&self, f: &mut fmt::Formatter<W>) -> fmt::Result {
+        for (i, node) in self.0.iter().enumerate() {
+            let Node { code, a, b } = *node;
+            writeln!(f, "{i} {code} {a} {b}")?;
+        }
+        Ok(())
+    }
+}
+
 // The formula as text, or, where it is too long or too deep to be read back, as its table of nodes.
-fn push_formula(
-    out: &mut String,
-    heap: Global,
-    nodes: &[Node],
-    questions: usize,
-) -> Result<(), Failure> {
-    if let Some(text) = print_formula(heap, nodes, questions)? {
-        writeln!(out, "true at OLD, false at NEW: {text}")?;
-        return Ok(());
+fn told(heap: Global, nodes: &[Node], questions: usize) -> Result<String, AllocError> {
+    match print_formula(heap, nodes, questions)? {
+        Some(text) => format!(in heap; "true at OLD, false at NEW: {text}\n"),
+        None => format!(in heap;
+            "true at OLD, false at NEW (too long for a line, so as nodes: number, code, a, b):\n{}",
+            Table(nodes)
+        ),
     }
-    out.push_str(
-        "true at OLD, false at NEW (too long for a line, so as nodes: number, code, a, b):\n",
-    )?;
-    for (i, node) in nodes.iter().enumerate() {
-        let Node { code, a, b } = *node;
-        writeln!(out, "{i} {code} {a} {b}")?;
-    }
-    Ok(())
 }
 
 // What is told of panels that differ.
@@ -51,17 +55,15 @@ fn different<L: Label>(
     old: &StoredModel<L>,
     new: &StoredModel<L>,
 ) -> Result<String, Failure> {
-    let mut out = format!(in heap; "different after {rounds} rounds\n")?;
-    push_formula(&mut out, heap, nodes, L::questions())?;
-    out.push_str("to see it:\n")?;
-    out.push_str(trial(heap, nodes, old, new)?.as_str())?;
-    Ok(out)
+    let formula = told(heap, nodes, L::questions())?;
+    let steps = trial(heap, nodes, old, new)?;
+    Ok(format!(in heap; "different after {rounds} rounds\n{formula}to see it:\n{steps}")?)
 }
 
-fn alike(heap: Global, rounds: usize, old: usize, new: usize) -> Result<String, Failure> {
-    Ok(format!(in heap;
+fn alike(heap: Global, rounds: usize, old: usize, new: usize) -> Result<String, AllocError> {
+    format!(in heap;
         "alike after {rounds} rounds ({old} and {new} states): no condition of any size tells the two panels apart\n"
-    )?)
+    )
 }
 
 fn of_kind<L: Coded>(heap: Global, old: &[u8], new: &[u8]) -> Result<String, Failure> {
@@ -71,7 +73,7 @@ fn of_kind<L: Coded>(heap: Global, old: &[u8], new: &[u8]) -> Result<String, Fai
     close(&mut comparison);
     let verdict = comparison.verdict()?;
     match verdict.outcome {
-        Outcome::Alike => alike(heap, verdict.rounds, old.states(), new.states()),
+        Outcome::Alike => Ok(alike(heap, verdict.rounds, old.states(), new.states())?),
         Outcome::Different => different(heap, comparison.table()?, verdict.rounds, &old, &new),
     }
 }

@@ -15,8 +15,8 @@ pub(crate) enum Failure {
     // The word is no rule.
     NoRule(String),
     Refused(Refusal),
-    // The state record is refused.
-    Record(Refusal, BadRecord),
+    // The image is refused for one of its state records.
+    Record(Refused<BadRecord>),
     // The text is refused as a condition.
     Condition(String, Refusal),
     Io(io::Error),
@@ -66,10 +66,7 @@ impl fmt::Display for Failure {
                 "{word} is no rule CARE,NEED,SET,CLEAR of four bytes"
             ),
             Failure::Refused(refusal) => writeln!(f, "{}", Refused::by_cause(*refusal)),
-            Failure::Record(refusal, record) => {
-                let (refusal, reason) = (*refusal, *record);
-                writeln!(f, "{}", Refused { refusal, reason })
-            }
+            Failure::Record(refused) => writeln!(f, "{refused}"),
             Failure::Condition(text, refusal) => {
                 let width = refusal.place.min(text.len()).saturating_add(1);
                 writeln!(

@@ -3,6 +3,7 @@ use crate::condition;
 use crate::failure::Failure;
 use crate::listing::{Graph, Listing};
 use crate::record::BadRecord;
+use crate::words::Refused;
 use image::slot::Slot;
 use image::stored::StoredModel;
 use kripke::model::Model;
@@ -46,10 +47,12 @@ pub(crate) fn load<L: Coded>(
     let mut model = StoredModel::new(heap)?;
     match model.load(heap, image, slot) {
         Ok(()) => Ok(model),
-        Err(Error::Refused(refusal)) if refusal.cause == Cause::StateRecord => Err(Failure::Record(
-            refusal,
-            BadRecord::at::<L>(image, refusal.place),
-        )),
+        Err(Error::Refused(refusal)) if refusal.cause == Cause::StateRecord => Err(
+            Failure::Record(Refused {
+                refusal,
+                reason: BadRecord::at::<L>(image, refusal.place),
+            }),
+        ),
         Err(error) => Err(Failure::from(error)),
     }
 }

@@ -2,6 +2,7 @@ use crate::difference::compare;
 use crate::failure::Failure;
 use crate::task::{Task, on_image, on_rules};
 use rules::rule::Rule;
+use std::process::Abort;
 use std::test::Fail;
 
 // Two signal-word states: 0 with word 0 leads to itself and to 1, which has word 1 and leads to itself.
@@ -13,7 +14,11 @@ const WAITS: [u8; 36] = [
 // One reading whose limits do not rise.
 const FLAT: [u8; 20] = [2, 0, 1, 0, 1, 0, 0, 0, 9, 5, 60, 60, 1, 0, 0, 0, 0, 0, 0, 0];
 
-fn answers(rt: &HostRuntime, answer: Result<String, Failure>, text: &str) -> Result<(), Fail> {
+fn answers(
+    rt: &(impl Abort + AllocGlobal),
+    answer: Result<String, Failure>,
+    text: &str,
+) -> Result<(), Fail> {
     let told = match answer {
         Ok(told) => told,
         Err(failure) => format!(in rt.alloc(); "{failure}")?,

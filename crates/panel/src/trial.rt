@@ -5,7 +5,7 @@ use crate::words::InWords;
 use kripke::model::Model;
 use kripke::node::Node;
 use kripke::operator::Operator;
-use std::alloc::Global;
+use std::alloc::{AllocError, Global};
 use std::fmt::Write;
 
 // A panel in one of its states, and where each node of the formula holds on it.
@@ -47,13 +47,14 @@ impl<'a, M: Model> Panel<'a, M> {
     }
 }
 
-fn push_question<M: Model>(
+// The answers of the two panels to a question, that node i asks.
+fn push_answers<M: Model>(
     out: &mut String,
     question: usize,
     i: usize,
-    old: &Panel<'_, M>,
-    new: &Panel<'_, M>,
-) -> Result<(), Failure> {
+    old: &Panel<M>,
+    new: &Panel<M>,
+) -> Result<(), AllocError> {
     writeln!(
         out,
         "  see: q{question} is {} in state {} of OLD and {} in state {} of NEW",
@@ -61,21 +62,20 @@ fn push_question<M: Model>(
         old.state,
         InWords(new.holds(i)),
         new.state
-    )?;
-    Ok(())
+    )
 }
 
+// A step of one panel, against any step of the other.
 fn push_step<M: Model>(
     out: &mut String,
-    led: &Panel<'_, M>,
-    free: &Panel<'_, M>,
-) -> Result<(), Failure> {
+    led: &Panel<M>,
+    free: &Panel<M>,
+) -> Result<(), AllocError> {
     writeln!(
         out,
         "  step: {} to state {}; {} by any step, as to state {}",
         led.name, led.state, free.name, free.state
-    )?;
-    Ok(())
+    )
 }
 
 // From the initial states down to a question that the two panels answer differently. A formula that holds at one state and fails at the
@@ -92,6 +92,7 @@ pub(crate) fn trial<M: Model>(
         "  start: OLD in state {}, NEW in state {}\n",
         old.state, new.state
     )?;
+    // A part stands before the node that it is a part of, so there are no more steps than nodes.
     let mut i = nodes.len().saturating_sub(1);
     for _ in 0..nodes.len() {
         let Some(node) = nodes.get(i) else {
@@ -100,7 +101,7 @@ pub(crate) fn trial<M: Model>(
         let (a, b) = (usize::from(node.a), usize::from(node.b));
         match Operator::try_from(node.code) {
             Ok(Operator::Question) => {
-                push_question(&mut out, a, i, &old, &new)?;
+                push_answers(&mut out, a, i, &old, &new)?;
                 break;
             }
             Ok(Operator::Not) => i = a,

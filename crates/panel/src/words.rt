@@ -1,10 +1,11 @@
-// Refusals and answers in words.
+// Refusals and answers in the engineer's words.
 use kripke::refusal::{Cause, Layer, Refusal};
 use std::fmt;
 
 #[derive(Clone, Copy)]
 pub(crate) struct InWords<T>(pub(crate) T);
 
+// An answer.
 impl fmt::Display for InWords<bool> {
     fn fmt<W: fmt::Write>(&self, f: &mut fmt::Formatter<W>) -> fmt::Result {
         f.write_str(if self.0 { "yes" } else { "no" })
