@@ -29,8 +29,8 @@ fn print_state<M: Model>(rt: &(impl Print), model: &M, s: usize) -> io::Result<(
     println!(rt; "")
 }
 
-// The kind, the number of states and the initial state, and then a line a state. The tool `panel` lists a model in the same words: a crate
-// for both, with the text as its contract, would be longer than these lines.
+// The kind, the number of states and the initial state, and then a line a state.
+// The program `panel` lists a model in the same words: a library for both, with a contract on the text, would be longer than these lines.
 fn print_model<M: Model>(rt: &(impl Print), kind: Kind, model: &M) -> io::Result<()> {
     let states = model.states();
     let initial = model.initial();
