@@ -1,37 +1,82 @@
+use crate::record::BadRecord;
+use crate::usage::USAGE;
+use crate::words::Refused;
+use kripke::refusal::{Error, Refusal};
 use std::alloc::{AllocError, AllocFailed};
 use std::{fmt, io};
 
-// Why a command gives no answer: a message for the engineer, or an error of the machine.
+// Why a command gives no answer.
 #[derive(Drop)]
-pub enum Failure {
-    Told(String),
+pub(crate) enum Failure {
+    // The words are no command.
+    Misused,
+    // The word is no number.
+    NoNumber(String),
+    // The word is no rule.
+    NoRule(String),
+    Refused(Refusal),
+    // The image is refused for one of its state records.
+    Record(Refused<BadRecord>),
+    // The text is refused as a condition.
+    Condition(String, Refusal),
     Io(io::Error),
 }
 
-fn no_memory() -> Failure {
-    Failure::Io(io::Error::from(io::ErrorKind::OutOfMemory))
+impl From<Refusal> for Failure {
+    fn from(refusal: Refusal) -> Failure {
+        Failure::Refused(refusal)
+    }
+}
+
+impl From<Error> for Failure {
+    fn from(error: Error) -> Failure {
+        match error {
+            Error::Refused(refusal) => Failure::from(refusal),
+            Error::Memory => Failure::from(AllocError),
+        }
+    }
 }
 
 impl From<AllocError> for Failure {
-    fn from(_: AllocError) -> Failure {
-        no_memory()
+    fn from(error: AllocError) -> Failure {
+        Failure::Io(io::Error::from(error))
     }
 }
 
 impl<T: Drop> From<AllocFailed<T>> for Failure {
-    fn from(_: AllocFailed<T>) -> Failure {
-        no_memory()
-    }
-}
-
-impl From<fmt::Error> for Failure {
-    fn from(_: fmt::Error) -> Failure {
-        no_memory()
+    fn from(error: AllocFailed<T>) -> Failure {
+        Failure::from(AllocError::from(error))
     }
 }
 
 impl From<io::Error> for Failure {
     fn from(error: io::Error) -> Failure {
         Failure::Io(error)
+    }
+}
+
+// The lines that tell the engineer; of a condition its text, and a caret under the place where it is refused.
+impl fmt::Display for Failure {
+    fn fmt<W: fmt::Write>(&self, f: &mut fmt::Formatter<W>) -> fmt::Result {
+        match self {
+            Failure::Misused => f.write_str(USAGE),
+            Failure::NoNumber(word) => writeln!(f, "{word} is no number of 0 to 65535"),
+            Failure::NoRule(word) => writeln!(
+                f,
+                "{word} is no rule CARE,NEED,SET,CLEAR of four bytes"
+            ),
+            Failure::Refused(refusal) => writeln!(f, "{}", Refused::by_cause(*refusal)),
+            Failure::Record(refused) => writeln!(f, "{refused}"),
+            Failure::Condition(text, refusal) => {
+                let width = refusal.place.min(text.len()).saturating_add(1);
+                writeln!(
+                    f,
+                    "{text}\n{:>width$}\n{}",
+                    "^",
+                    Refused::by_cause(*refusal)
+                )
+            }
+            Failure::Io(error) => writeln!(f, "panel: {error}"),
+        }
     }
 }

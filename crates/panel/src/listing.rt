@@ -1,68 +1,85 @@
 // A model as text: a listing, or a graph for Graphviz.
-use crate::failure::Failure;
 use kripke::label::Label;
 use kripke::model::Model;
-use std::alloc::Global;
-use std::fmt::Write;
+use std::fmt;
 
-// The questions that a state answers yes, each after a space.
-fn push_answers<M: Model>(out: &mut String, model: &M, s: usize) -> Result<(), Failure> {
-    let label = model.label(s);
-    for i in 0..M::Label::questions() {
-        if label.answer(i) {
-            write!(out, " q{i}")?;
+// The questions that a label answers yes, each after a space.
+#[derive(Drop)]
+struct Answers<L>(L);
+
+impl<L: Label> fmt::Display for Answers<L> {
+    fn fmt<W: fmt::Write>(&self, f: &mut fmt::Formatter<W>) -> fmt::Result {
+        for i in (0..L::questions()).filter(|i| self.0.answer(*i)) {
+            write!(f, " q{i}")?;
         }
+        Ok(())
     }
-    Ok(())
-}
-
-fn push_state<M: Model>(out: &mut String, model: &M, s: usize) -> Result<(), Failure> {
-    write!(out, "state {s}:")?;
-    push_answers(out, model, s)?;
-    out.push_str(" ->")?;
-    for i in 0..model.degree(s) {
-        let next = model.successor(s, i);
-        write!(out, " {next}")?;
-    }
-    out.push_str("\n")?;
-    Ok(())
 }
 
 // The kind, the number of states and the initial state, and then a line a state.
-pub(crate) fn listing<M: Model>(heap: Global, kind: &str, model: &M) -> Result<String, Failure> {
-    let mut out = String::new(heap);
-    let states = model.states();
-    let initial = model.initial();
-    writeln!(out, "{kind}, {states} states, initial state {initial}")?;
-    for s in 0..states {
-        push_state(&mut out, model, s)?;
-    }
-    Ok(out)
+#[derive(Drop)]
+pub(crate) struct Listing<'a, K, M> {
+    pub(crate) kind: K,
+    pub(crate) model: &'a M,
 }
 
-fn push_edges<M: Model>(out: &mut String, model: &M, s: usize) -> Result<(), Failure> {
+// A state, the questions that it answers yes, and its successors.
+fn write_line<M: Model, W: fmt::Write>(
+    f: &mut fmt::Formatter<W>,
+    model: &M,
+    s: usize,
+) -> fmt::Result {
+    write!(f, "state {s}:{} ->", Answers(model.label(s)))?;
+    for next in (0..model.degree(s)).map(|i| model.successor(s, i)) {
+        write!(f, " {next}")?;
+    }
+    writeln!(f)
+}
+
+impl<'a, K: fmt::Display, M: Model> fmt::Display for Listing<'a, K, M> {
+    fn fmt<W: fmt::Write>(&self, f: &mut fmt::Formatter<W>) -> fmt::Result {
+        let Listing { kind, model } = self;
+        let (states, initial) = (model.states(), model.initial());
+        writeln!(f, "{kind}, {states} states, initial state {initial}")?;
+        for s in 0..states {
+            write_line(f, *model, s)?;
+        }
+        Ok(())
+    }
+}
+
+// The graph of a model, the initial state in a double circle, labels as the questions answered yes.
+#[derive(Drop)]
+pub(crate) struct Graph<'a, M>(pub(crate) &'a M);
+
+// A state and its edges.
+fn write_vertex<M: Model, W: fmt::Write>(
+    f: &mut fmt::Formatter<W>,
+    model: &M,
+    s: usize,
+) -> fmt::Result {
     let shape = if s == model.initial() {
         ", shape=doublecircle"
     } else {
         ""
     };
-    write!(out, "    {s} [label=\"{s}")?;
-    push_answers(out, model, s)?;
-    writeln!(out, "\"{shape}];")?;
-    for i in 0..model.degree(s) {
-        let next = model.successor(s, i);
-        writeln!(out, "    {s} -> {next};")?;
+    writeln!(
+        f,
+        "    {s} [label=\"{s}{}\"{shape}];",
+        Answers(model.label(s))
+    )?;
+    for next in (0..model.degree(s)).map(|i| model.successor(s, i)) {
+        writeln!(f, "    {s} -> {next};")?;
     }
     Ok(())
 }
 
-// The graph of the model, the initial state in a double circle, labels as the questions answered yes.
-pub(crate) fn graph<M: Model>(heap: Global, model: &M) -> Result<String, Failure> {
-    let mut out = String::new(heap);
-    out.push_str("digraph panel {\n")?;
-    for s in 0..model.states() {
-        push_edges(&mut out, model, s)?;
+impl<'a, M: Model> fmt::Display for Graph<'a, M> {
+    fn fmt<W: fmt::Write>(&self, f: &mut fmt::Formatter<W>) -> fmt::Result {
+        f.write_str("digraph panel {\n")?;
+        for s in 0..self.0.states() {
+            write_vertex(f, self.0, s)?;
+        }
+        f.write_str("}\n")
     }
-    out.push_str("}\n")?;
-    Ok(out)
 }

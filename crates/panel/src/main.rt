@@ -1,7 +1,6 @@
 // The engineer's tool: compares two panels, checks a condition, shows a model.
 #![tactic(auto)]
 
-use crate::failure::Failure;
 use std::process::ExitCode;
 use std::{env, io};
 
@@ -10,25 +9,25 @@ mod condition;
 mod difference;
 mod failure;
 mod listing;
+mod marks;
+mod record;
 mod task;
 #[cfg(test)]
 mod tests;
 mod trial;
+mod usage;
 mod words;
 
 fn main(rt: HostRuntime) -> io::Result<ExitCode> {
     let words: Vec<String> = env::args(&rt)?.collect(rt.alloc())?;
+    let words: Vec<&str> = words.iter().map(|word| word.as_str()).collect(rt.alloc())?;
     match command::run(&rt, words.as_slice()) {
         Ok(text) => {
             print!(rt; "{text}")?;
             Ok(ExitCode::SUCCESS)
         },
-        Err(Failure::Told(text)) => {
-            eprint!(rt; "{text}")?;
-            Ok(ExitCode::FAILURE)
-        },
-        Err(Failure::Io(error)) => {
-            eprintln!(rt; "panel: {error}")?;
+        Err(failure) => {
+            eprint!(rt; "{failure}")?;
             Ok(ExitCode::FAILURE)
         },
     }

@@ -1,40 +1,44 @@
 // What is done with one model, whatever holds it.
+use crate::condition;
 use crate::failure::Failure;
-use crate::{condition, listing, words};
+use crate::listing::{Graph, Listing};
+use crate::record::BadRecord;
+use crate::words::Refused;
 use image::slot::Slot;
 use image::stored::StoredModel;
 use kripke::model::Model;
-use kripke::refusal::Error;
+use kripke::refusal::{Cause, Error};
 use labels::coded::Coded;
+use labels::kind::Kind;
 use labels::reading::Reading;
 use labels::signal::SignalWord;
 use rules::model::RuleModel;
 use rules::rule::Rule;
-use std::alloc::{AllocError, Global};
+use std::alloc::Global;
+use std::fmt;
 
 // A listing, a graph, or a condition to check.
 #[derive(Clone, Copy)]
-pub enum Task {
+pub(crate) enum Task<'a> {
     List,
     Graph,
-    Check,
+    Check(&'a str),
 }
 
-fn perform<M: Model>(
+fn perform<K: fmt::Display + Drop, M: Model>(
     heap: Global,
-    kind: &str,
+    kind: K,
     model: &M,
     task: Task,
-    text: &str,
 ) -> Result<String, Failure> {
     match task {
-        Task::List => listing::listing(heap, kind, model),
-        Task::Graph => listing::graph(heap, model),
-        Task::Check => condition::check(heap, model, text),
+        Task::List => Ok(format!(in heap; "{}", Listing { kind, model })?),
+        Task::Graph => Ok(format!(in heap; "{}", Graph(model))?),
+        Task::Check(text) => condition::check(heap, model, text),
     }
 }
 
-// The model of an image, or the refusal in words.
+// The model of an image. Of a refused state record it is told what is wrong with it.
 pub(crate) fn load<L: Coded>(
     heap: Global,
     image: &[u8],
@@ -43,34 +47,25 @@ pub(crate) fn load<L: Coded>(
     let mut model = StoredModel::new(heap)?;
     match model.load(heap, image, slot) {
         Ok(()) => Ok(model),
-        Err(Error::Refused(refusal)) => Err(Failure::Told(words::image_refused(
-            heap, image, &refusal,
-        )?)),
-        Err(Error::Memory) => Err(Failure::from(AllocError)),
+        Err(Error::Refused(refusal)) if refusal.cause == Cause::StateRecord => Err(
+            Failure::Record(Refused {
+                refusal,
+                reason: BadRecord::at::<L>(image, refusal.place),
+            }),
+        ),
+        Err(error) => Err(Failure::from(error)),
     }
 }
 
-pub(crate) fn on_image(
-    heap: Global,
-    image: &[u8],
-    task: Task,
-    text: &str,
-) -> Result<String, Failure> {
-    match image.first() {
-        Some(2) => perform(
-            heap,
-            "readings",
-            &load::<Reading>(heap, image, Slot::First)?,
-            task,
-            text,
-        ),
-        _ => perform(
-            heap,
-            "signal words",
-            &load::<SignalWord>(heap, image, Slot::First)?,
-            task,
-            text,
-        ),
+fn on_labels<L: Coded>(heap: Global, image: &[u8], task: Task) -> Result<String, Failure> {
+    let model = load::<L>(heap, image, Slot::First)?;
+    perform(heap, L::kind(), &model, task)
+}
+
+pub(crate) fn on_image(heap: Global, image: &[u8], task: Task) -> Result<String, Failure> {
+    match Kind::of_image(image) {
+        Kind::SignalWords => on_labels::<SignalWord>(heap, image, task),
+        Kind::Readings => on_labels::<Reading>(heap, image, task),
     }
 }
 
@@ -80,11 +75,8 @@ pub(crate) fn on_rules(
     initial: usize,
     rules: &[Rule],
     task: Task,
-    text: &str,
 ) -> Result<String, Failure> {
     let mut model = RuleModel::new();
-    match model.load(bits, initial, rules) {
-        Ok(()) => perform(heap, "rules on signal words", &model, task, text),
-        Err(refusal) => Err(Failure::Told(words::refused(heap, &refusal)?)),
-    }
+    model.load(bits, initial, rules)?;
+    perform(heap, "rules on signal words", &model, task)
 }

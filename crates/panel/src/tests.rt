@@ -14,18 +14,17 @@ const WAITS: [u8; 36] = [
 // One reading whose limits do not rise.
 const FLAT: [u8; 20] = [2, 0, 1, 0, 1, 0, 0, 0, 9, 5, 60, 60, 1, 0, 0, 0, 0, 0, 0, 0];
 
-fn answers(rt: &impl Abort, res: Result<String, Failure>, text: &str) -> Result<(), Fail> {
-    match res {
-        Ok(found) => {
-            assert_eq!(rt; found.as_str(), text);
-            Ok(())
-        },
-        Err(Failure::Told(found)) => {
-            assert_eq!(rt; found.as_str(), text);
-            Ok(())
-        },
-        Err(Failure::Io(_)) => Err(Fail::new("an error of the machine")),
-    }
+fn answers(
+    rt: &(impl Abort + AllocGlobal),
+    answer: Result<String, Failure>,
+    text: &str,
+) -> Result<(), Fail> {
+    let told = match answer {
+        Ok(told) => told,
+        Err(failure) => format!(in rt.alloc(); "{failure}")?,
+    };
+    assert_eq!(rt; told.as_str(), text);
+    Ok(())
 }
 
 #[test]
@@ -33,17 +32,17 @@ fn shows(rt: HostRuntime) -> Result<(), Fail> {
     let heap = rt.alloc();
     answers(
         &rt,
-        on_image(heap, &WAITS, Task::List, ""),
+        on_image(heap, &WAITS, Task::List),
         "signal words, 2 states, initial state 0\nstate 0: -> 0 1\nstate 1: q0 -> 1\n",
     )?;
     answers(
         &rt,
-        on_image(heap, &WAITS, Task::Graph, ""),
+        on_image(heap, &WAITS, Task::Graph),
         "digraph panel {\n    0 [label=\"0\", shape=doublecircle];\n    0 -> 0;\n    0 -> 1;\n    1 [label=\"1 q0\"];\n    1 -> 1;\n}\n",
     )?;
     answers(
         &rt,
-        on_image(heap, &FLAT, Task::List, ""),
+        on_image(heap, &FLAT, Task::List),
         "image 1, byte 8: state record 0 has limits that do not rise (refusal 4)\n",
     )
 }
@@ -53,17 +52,17 @@ fn checks(rt: HostRuntime) -> Result<(), Fail> {
     let heap = rt.alloc();
     answers(
         &rt,
-        on_image(heap, &WAITS, Task::Check, "AG EF q0"),
+        on_image(heap, &WAITS, Task::Check("AG EF q0")),
         "yes: AG EF q0\ninitial state 0; holds at 2 of 2 states: 0 1\n",
     )?;
     answers(
         &rt,
-        on_image(heap, &WAITS, Task::Check, "AF q0"),
+        on_image(heap, &WAITS, Task::Check("AF q0")),
         "no: AF q0\ninitial state 0; holds at 1 of 2 states: 1\n",
     )?;
     answers(
         &rt,
-        on_image(heap, &WAITS, Task::Check, "(q0&"),
+        on_image(heap, &WAITS, Task::Check("(q0&")),
         "(q0&\n    ^\ncondition, byte 4: no condition continues with this (refusal 10)\n",
     )
 }
@@ -79,12 +78,12 @@ fn rules(rt: HostRuntime) -> Result<(), Fail> {
     }];
     answers(
         &rt,
-        on_rules(heap, 1, 0, &turn, Task::List, ""),
+        on_rules(heap, 1, 0, &turn, Task::List),
         "rules on signal words, 2 states, initial state 0\nstate 0: -> 1\nstate 1: q0 -> 1\n",
     )?;
     answers(
         &rt,
-        on_rules(heap, 9, 0, &turn, Task::List, ""),
+        on_rules(heap, 9, 0, &turn, Task::List),
         "rules, rule 0: bits are 1 to 8, rules at most 16, and the initial state is one of the states (refusal 7)\n",
     )
 }

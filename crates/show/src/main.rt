@@ -8,29 +8,30 @@ use kripke::label::Label;
 use kripke::model::Model;
 use kripke::refusal::Error;
 use labels::coded::Coded;
+use labels::kind::Kind;
 use labels::reading::Reading;
 use labels::signal::SignalWord;
+use std::alloc::AllocError;
 use std::io;
 use std::io::Read;
 
 // One state: the questions that it answers yes, and its successors.
 fn print_state<M: Model>(rt: &(impl Print), model: &M, s: usize) -> io::Result<()> {
-    print!(rt; "state {s}:")?;
     let label = model.label(s);
-    for i in 0..M::Label::questions() {
-        if label.answer(i) {
-            print!(rt; " q{i}")?;
-        }
+    print!(rt; "state {s}:")?;
+    for i in (0..M::Label::questions()).filter(|i| label.answer(*i)) {
+        print!(rt; " q{i}")?;
     }
     print!(rt; " ->")?;
-    for i in 0..model.degree(s) {
-        let next = model.successor(s, i);
+    for next in (0..model.degree(s)).map(|i| model.successor(s, i)) {
         print!(rt; " {next}")?;
     }
     println!(rt; "")
 }
 
-fn print_model<M: Model>(rt: &(impl Print), kind: &str, model: &M) -> io::Result<()> {
+// The kind, the number of states and the initial state, and then a line a state.
+// The program `panel` lists a model in the same words: a library for both, with a contract on the text, would be longer than these lines.
+fn print_model<M: Model>(rt: &(impl Print), kind: Kind, model: &M) -> io::Result<()> {
     let states = model.states();
     let initial = model.initial();
     println!(rt; "{kind}, {states} states, initial state {initial}")?;
@@ -40,20 +41,20 @@ fn print_model<M: Model>(rt: &(impl Print), kind: &str, model: &M) -> io::Result
     Ok(())
 }
 
-fn show<L: Coded>(rt: &HostRuntime, kind: &str, image: &[u8]) -> io::Result<()> {
+fn show<L: Coded>(rt: &HostRuntime, image: &[u8]) -> io::Result<()> {
     let mut model = StoredModel::<L>::new(rt.alloc())?;
     match model.load(rt.alloc(), image, Slot::First) {
-        Ok(()) => print_model(rt, kind, &model),
+        Ok(()) => print_model(rt, L::kind(), &model),
         Err(Error::Refused(refusal)) => println!(rt; "{refusal}"),
-        Err(Error::Memory) => Err(io::Error::from(io::ErrorKind::OutOfMemory)),
+        Err(Error::Memory) => Err(io::Error::from(AllocError)),
     }
 }
 
 fn main(rt: HostRuntime) -> io::Result<()> {
     let mut image = Vec::new(rt.alloc());
     rt.stdin().read_to_end(&mut image)?;
-    match image.first() {
-        Some(2) => show::<Reading>(&rt, "readings", image.as_slice()),
-        _ => show::<SignalWord>(&rt, "signal words", image.as_slice()),
+    match Kind::of_image(image.as_slice()) {
+        Kind::SignalWords => show::<SignalWord>(&rt, image.as_slice()),
+        Kind::Readings => show::<Reading>(&rt, image.as_slice()),
     }
 }
