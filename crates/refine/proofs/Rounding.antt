@@ -9,13 +9,11 @@ use Rattle.kripke.specs.Union.{both}
 use Rattle.kripke.specs.Classes.{Alike, Refined}
 use Rattle.kripke.proofs.Reflect.{some-T}
 use Rattle.kripke.proofs.Unions.{both_size, both_closed}
-use Rattle.refine.specs.Growth.{next_node}
 use Rattle.refine.specs.Tests.{test, hits}
 use Rattle.refine.specs.Steps.{at, node_formula, class_of, class_formula, Exact, Shallow, Divided}
 use Rattle.refine.specs.Rounding.{Refining, Rounded}
 use Rattle.refine.specs.declared.partition.Partition.{Partition}
 use Rattle.refine.proofs.Somes.{some_ext, T-yes, bools}
-use Rattle.refine.proofs.Orders.{T_and, lt_T}
 use Rattle.refine.proofs.Scan.{keeps_refl, keeps_trans}
 use Rattle.refine.proofs.Begins.{test_boolean}
 
@@ -25,9 +23,6 @@ module _ (u : Kripke) (p q : Partition) (i : ℕ) (h : Refining u p q i) (c name
 
   same : node_formula q name ≡ class_formula p c
   same = h.keeps.extends.same name here ∙ ap (λ (j : ℕ). node_formula p j) (nm ∙ ap (λ (v : ℕ). get_or p.node v 0) (sym lead))
-
-  pub ex_fits : T (next_node q.questions (length (vec_items q.nodes.list)) (record { code = 5; a = name; b = 0 }))
-  ex_fits = T_and _ _ (lt_T name (length (vec_items q.nodes.list)) (omega (arith, here, h.keeps.extends.longer))) tt
 
   ex_shallow : (d : ℕ) → Shallow d p → nesting (EX (node_formula q name)) ≤ suc d
   ex_shallow d old = subst (λ (f : Formula). suc (nesting f) ≤ suc d) (sym same) (omega (arith, old c cn))

@@ -1,18 +1,8 @@
 -- The test of some member of a list.
 use Rattle.std.proofs.Common.{◌≡◌, ℕ, zero, suc, ◌<◌, Bool, true, false, ◌||◌, T, List, [], ◌∷◌, map, length, get_or, sym, refl, ap, ◌∙◌, inl, inr, arith}
 use Rattle.std.specs.List.{list_any}
-use Rattle.std.proofs.lemmas.Bool.{or_left, or_right, or_from}
 use Rattle.kripke.specs.Structure.{Member}
 use Rattle.kripke.specs.Tests.{some}
-
-pub some_found : (q : ℕ → Bool) (l : List ℕ) (i : ℕ) → i < length l → q (get_or l i 0) ≡ true → some q l ≡ true
-some_found q [] i h e = absurd (omega arith)
-some_found q (x ∷ l) zero h e = or_left (q x) (some q l) e
-some_found q (x ∷ l) (suc i) h e = or_right (q x) (some q l) (some_found q l i (omega arith) e)
-
-pub some_none : (q : ℕ → Bool) (l : List ℕ) → ((i : ℕ) → i < length l → q (get_or l i 0) ≡ false) → some q l ≡ false
-some_none q [] h = refl
-some_none q (x ∷ l) h = or_from (q x) (some q l) (h 0 (omega arith)) (some_none q l (λ i b. h (suc i) (omega arith)))
 
 pub member_at : (l : List ℕ) (i : ℕ) → i < length l → Member (get_or l i 0) l
 member_at [] i h = absurd (omega arith)

@@ -79,15 +79,6 @@ module _ (n : ℕ) (cl new : ℕ → ℕ) (y : ℕ → Bool) (c s0 : ℕ)
       go (inr p) (inl q) = absurd (unused s hs (sym p.1 ∙ e ∙ q.2))
       go (inr p) (inr q) = sym p.1 ∙ e ∙ q.1
 
-  pub one_side : (s t : ℕ) → s < n → t < n → new s ≡ new t → cl s ≡ c → y s ≡ y t
-  one_side s t hs ht e z = go (ways s hs) (ways t ht)
-    where
-      go : Moved s ⊎ Stays s → Moved t ⊎ Stays t → y s ≡ y t
-      go (inl p) (inl q) = p.1 ∙ sym q.1
-      go (inl p) (inr q) = absurd (unused t ht (sym q.1 ∙ sym e ∙ p.2))
-      go (inr p) (inl q) = absurd (unused s hs (sym p.1 ∙ e ∙ q.2))
-      go (inr p) (inr q) = p.0 z ∙ sym (q.0 (sym (one_before s t hs ht e) ∙ z))
-
   pub one_after : (s t : ℕ) → s < n → t < n → cl s ≡ cl t → (cl s ≡ c → y s ≡ y t) → new s ≡ new t
   one_after s t hs ht e z = go (ways s hs) (ways t ht)
     where

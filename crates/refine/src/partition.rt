@@ -6,6 +6,7 @@ ghost use Rattle.refine.specs.Growth.{Orderly};
 use crate::nodes::Nodes;
 
 // Numbered states in classes, each with the node of a formula. A class goes by its least state.
+// The tables are arrays, of which the first `states` places count: a round works from a copy of them, and must not ask for memory.
 #[derive(Drop)]
 pub struct Partition {
     pub states: u16,

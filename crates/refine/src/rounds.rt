@@ -56,16 +56,20 @@ impl Partition {
     }
 
     // One round: two states stay together when they were, and each successor of either has one of the other in its class before the round.
-    pub(crate) fn round(&mut self, pair: &Pair)
+    // Did it split nothing?
+    pub(crate) fn round(&mut self, pair: &Pair) -> bool
         requires { self.old.states ≡ total (first_of pair.now) (second_of pair.now) }
-        ensures { Rounded (first_of pair.now) (second_of pair.now) (both_of pair.now) self.old self.new }
+        ensures rounded { Rounded (first_of pair.now) (second_of pair.now) (both_of pair.now) self.old self.new }
+        ensures rests { result ≡ (self.new.count == self.old.count) }
     {
-        let before = self.class;
-        let names = self.node;
+        let before = self.count;
+        let class = self.class;
+        let node = self.node;
         for c in 0..self.states {
-            if before[c as usize] == c {
-                self.split_by(pair, &before, c, names[c as usize]);
+            if class[c as usize] == c {
+                self.split_by(pair, &class, c, node[c as usize]);
             }
         }
+        self.count == before
     }
 }

@@ -38,9 +38,7 @@ impl Refinement {
         ensures pair { self.new.pair ≡ self.old.pair }
         ensures rounds { self.new.rounds ≡ suc self.old.rounds }
     {
-        let before = self.parts.count;
-        self.parts.round(&self.pair);
-        self.rests = self.parts.count == before;
+        self.rests = self.parts.round(&self.pair);
         self.rounds += 1;
     }
 
@@ -55,10 +53,9 @@ impl Refinement {
     pub fn round(&mut self) -> usize
         ensures { Advanced self.old self.new result }
     {
-        if self.rests {
-            return self.count();
+        if !self.rests {
+            self.advance();
         }
-        self.advance();
         self.count()
     }
 }

@@ -8,7 +8,7 @@ use Rattle.refine.specs.declared.partition.Partition.{Partition}
 use Rattle.refine.proofs.Rowed.{table_lawful}
 use Rattle.refine.proofs.Rounding.{refining_none, refining_skip, refining_step, inside_both, rounded}
 use Rattle.refine.proofs.partition.Partition.round.Goals as goal
-use Rattle.refine.proofs.partition.Partition.round.Goals.{then-before-c, else-before-c}
+use Rattle.refine.proofs.partition.Partition.round.Goals.{then-class-c, else-class-c}
 
 pub loop-c-init : goal.loop-c-init
 loop-c-init c = refining_none (both_of c.args.pair.now) c.args.self.now
@@ -21,19 +21,19 @@ loop-c-preserved c =
     let p : Partition = c.args.self.now in
     let q : Partition = c.loop-c.self in
     let i : ℕ = c.loop-c.c in
-    elim c.if-before-c.branch [
-      | then-before-c w ↦
+    elim c.if-class-c.branch [
+      | then-class-c w ↦
           (let hv = w.split_by.ensures in
           let rows : (s : ℕ) → s < p.states → at hv.row s ≡ hits u p.class i s = λ s h. hv.hit s (omega (arith, h, c.requires)) in
           subst (λ (r : Partition). Refining u p r (i + 1)) (sym w.self-is)
-          (refining_step u p q i c.loop-c.invariant i (get_or p.node i 0) c.loop-c-test.true w.if-before-c.true refl
+          (refining_step u p q i c.loop-c.invariant i (get_or p.node i 0) c.loop-c-test.true w.if-class-c.true refl
           (inside_both a b (table_lawful c.args.pair.now.first).closed (table_lawful c.args.pair.now.second).closed p c.requires)
           refl w.split_by.new.self hv.row rows hv.divided))
-      | else-before-c w ↦ subst (λ (r : Partition). Refining u p r (i + 1)) (sym w.self-is) (refining_skip u p q i c.loop-c.invariant w.if-before-c.false)
+      | else-class-c w ↦ subst (λ (r : Partition). Refining u p r (i + 1)) (sym w.self-is) (refining_skip u p q i c.loop-c.invariant w.if-class-c.false)
     ]
 
-pub returns : goal.returns
-returns c =
+pub returns-clause-rounded : goal.returns-clause-rounded
+returns-clause-rounded c =
     let r = c.args.pair.now in
     let p : Partition = c.args.self.now in
     let all : c.loop-c.c ≡ p.states = omega arith in

@@ -27,10 +27,11 @@ invariant_of-self c =
     let la = (table_lawful r.pair.first).closed in
     let lb = (table_lawful r.pair.second).closed in
     let p : Partition = r.parts in
-    let q : Partition = c.round.new.self in
+    let q : Partition = c.round-self.new.self in
     let k : ℕ = r.rounds in
-    let d = c.round.ensures in
+    let d = c.round-self.ensures.rounded in
     let k1 : suc k ≡ k + 1 = sym (add-one k) in
+    let b0 : c.round-self.result ≡ eqb q.count p.count = c.round-self.ensures.rests in
     let pace : suc k ≤ p.count = subst (λ (z : Bool). cond z k (suc k) ≤ p.count) c.requires r.pace in
     record {
       long = d.keeps.states ∙ r.long;
@@ -38,7 +39,8 @@ invariant_of-self c =
       told = exact_told (both a b) q (d.exact (told_exact (both a b) p r.told));
       shallow = subst (λ (n : ℕ). Shallow n q) k1 (d.shallow k r.shallow);
       numbered = subst (λ (n : ℕ). Numbered a b n q.class) k1 (next_numbered a b la lb k p q r.long r.numbered d);
-      last = subst (λ (n : ℕ). eqb q.count p.count ≡ rested a b n) k1 (next_rests a b la lb k p q r.long r.numbered d);
+      last = b0 ∙ subst (λ (n : ℕ). eqb q.count p.count ≡ rested a b n) k1 (next_rests a b la lb k p q r.long r.numbered d);
       pace =
-          subst (λ (n : ℕ). cond (eqb q.count p.count) n (suc n) ≤ q.count) k1 (next_pace a b la lb k p q r.long r.numbered d pace);
+          subst (λ (z : Bool). cond z (k + 1) (suc (k + 1)) ≤ q.count) (sym b0)
+          (subst (λ (n : ℕ). cond (eqb q.count p.count) n (suc n) ≤ q.count) k1 (next_pace a b la lb k p q r.long r.numbered d pace));
     }
