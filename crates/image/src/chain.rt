@@ -58,6 +58,7 @@ impl<'a> Iterator for Chain<'a> {
     ghost next_gives = { λ s r t. (t.linked ≡ s.linked) × Step s.linked.records.image.now s.link r t.link };
 
     fn next(&mut self) -> Option<u16> {
+        // In an image 0 names no link: it ends a chain.
         if self.link == 0 {
             return None;
         }

@@ -8,7 +8,7 @@ ghost use Rattle.image.specs.Loading.{Breach, GoodLink, GoodState};
 use kripke::refusal::{Cause, Layer, Refusal};
 use labels::coded::Coded;
 
-// The lengths of the header, of a state's record and of a link's.
+// The lengths of the header, of a state's record and of a link's, in bytes.
 const HEADER: usize = 8;
 
 const STATE_RECORD: usize = 8;
@@ -26,6 +26,7 @@ const LINKS: usize = 4;
 
 const INITIAL: usize = 6;
 
+// The most states and links that an image may have.
 const MOST_STATES: usize = 256;
 
 const MOST_LINKS: usize = 4096;
@@ -47,8 +48,8 @@ pub(crate) struct Records<'a> {
     ghost begins: { initial < states },
 }
 
-#[tactic(auto, unfolding(crate::specs::Image::number_at))]
 // The number of two bytes at an offset, low byte first.
+#[tactic(auto, unfolding(crate::specs::Image::number_at))]
 fn number(image: &[u8], at: usize) -> u16
     requires { at + 2 ≤ length image.now }
     ensures { result ≡ Image.number_at image.now at }
@@ -68,9 +69,9 @@ fn bad_field<L: Coded>(image: &[u8]) -> Option<usize>
         Some(KIND)
     } else if image[GAP] != 0 {
         Some(GAP)
-    } else if states < 1 || states > MOST_STATES {
+    } else if !(1..=MOST_STATES).contains(&states) {
         Some(STATES)
-    } else if links < 1 || links > MOST_LINKS {
+    } else if !(1..=MOST_LINKS).contains(&links) {
         Some(LINKS)
     } else if initial >= states {
         Some(INITIAL)

@@ -41,12 +41,10 @@ impl<L: Coded> StoredModel<L> {
     pub fn new(heap: Global) -> Result<StoredModel<L>, AllocError>
         ensures { IfOk result (λ m. Fresh L.Coded.coding (meaning_of L.Label.answers m)) }
     {
-        let mut next = Vec::new(heap);
-        next.push(0)?;
         let mut rows = Vec::new(heap);
         rows.push(Row {
             label: L::fresh(),
-            next,
+            next: vec![in heap; 0]?,
         })?;
         Ok(StoredModel { rows, initial: 0 })
     }
