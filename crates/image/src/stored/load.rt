@@ -41,11 +41,11 @@ impl<L: Coded> StoredModel<L> {
     pub fn new(heap: Global) -> Result<StoredModel<L>, AllocError>
         ensures { IfOk result (λ m. Fresh L.Coded.coding (meaning_of L.Label.answers m)) }
     {
-        let row = Row {
+        let mut rows = Vec::new(heap);
+        rows.push(Row {
             label: L::fresh(),
             next: vec![in heap; 0]?,
-        };
-        let rows = vec![in heap; row]?;
+        })?;
         Ok(StoredModel { rows, initial: 0 })
     }
 
