@@ -4,4 +4,6 @@
 
 mod cursor;
 pub mod report;
+#[cfg(test)]
+mod tests;
 pub mod write;
