@@ -1,10 +1,10 @@
 ghost use Rattle.compare.specs.Answers.{ClassNumber, Decides};
 ghost use Rattle.std.specs.Prelude.{◌≡◌, IfOk};
 ghost use Rattle.compare.specs.Breaches.{ClassBreach, RoundBreach, VerdictBreach};
-ghost use Rattle.compare.specs.Calls.{Opened, Rounded, first, rounds, second};
+ghost use Rattle.compare.specs.Calls.{Opened, Rounded, Same, first, rounds, second};
 ghost use Rattle.compare.specs.Closing.{Reached};
 ghost use Rattle.kripke.specs.Refusals.{Judged};
-ghost use Rattle.kripke.specs.Rounds.{ClosedAfter};
+ghost use Rattle.kripke.specs.Rounds.{ClosedAfter, FirstClosed};
 ghost use Rattle.kripke.specs.declared.refusal.Layer.TheVariants as layer;
 
 use crate::comparison::Comparison;
@@ -63,6 +63,16 @@ impl Comparison {
         match self.outcome() {
             None => Ok(self.advance()),
             Some(_) => Err(Layer::Comparison.refusal(Cause::ClosedComparison, self.stages.rounds)),
+        }
+    }
+
+    // Makes rounds until the comparison is closed, which is after no more of them than there are states.
+    pub fn close(&mut self)
+        ensures same { Same self.old self.new }
+        ensures closed { FirstClosed (first self.new) (second self.new) (rounds self.new) }
+    {
+        while self.outcome().is_none() {
+            self.advance();
         }
     }
 

@@ -7,8 +7,8 @@ use Rattle.kripke.specs.Nodes.{constant, operator, operators}
 use Rattle.kripke.specs.declared.node.Node.{Node}
 use Rattle.evaluator.specs.Rows.{Tells}
 use Rattle.evaluator.specs.Marks.{Applies, Complements, Divides, Marked, Paths, Trim, Whole}
-use Rattle.evaluator.specs.declared.quantifier.Quantifier.{Quantifier}
-use Rattle.evaluator.specs.declared.quantifier.Quantifier.TheVariants as quantifier
+use Rattle.kripke.specs.declared.quantifier.Quantifier.{Quantifier}
+use Rattle.kripke.specs.declared.quantifier.Quantifier.TheVariants as quantifier
 use Rattle.kripke.proofs.Walks.{path_inside}
 use Rattle.evaluator.proofs.Turns.{paths_map, paths_clash, turned_on, turned_off, turned_trim}
 

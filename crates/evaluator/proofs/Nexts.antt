@@ -3,9 +3,10 @@ use Rattle.std.proofs.Common.{◌≡◌, ℕ, ◌<◌, Bool, true, false, ◌&&�
 use Rattle.std.proofs.lemmas.Bool.{both_ways, cases_lt, lt-ltb, le-ltb, and_left}
 use Rattle.kripke.specs.Structure.{Kripke, Closed, Lawful, size, successors}
 use Rattle.kripke.specs.Ctl.{Next}
-use Rattle.evaluator.specs.Marks.{Collects, Divides, Marked, Paths, dual, steps}
-use Rattle.evaluator.specs.declared.quantifier.Quantifier.{Quantifier}
-use Rattle.evaluator.specs.declared.quantifier.Quantifier.TheVariants as quantifier
+use Rattle.evaluator.specs.Marks.{Collects, Divides, Marked, Paths, steps}
+use Rattle.kripke.specs.Quantifiers.{dual}
+use Rattle.kripke.specs.declared.quantifier.Quantifier.{Quantifier}
+use Rattle.kripke.specs.declared.quantifier.Quantifier.TheVariants as quantifier
 use Rattle.evaluator.proofs.Members.{every_yes, every_no, some_yes, some_no}
 use Rattle.kripke.proofs.Walks.{through, second}
 

@@ -4,7 +4,7 @@ use Rattle.std.proofs.lemmas.Bool.{both_ways, cases_eq, eq-eqb, ne_eqb, or_left,
 use Rattle.kripke.specs.Structure.{Kripke, Lawful, size, successors}
 use Rattle.kripke.specs.Ctl.{Until}
 use Rattle.evaluator.specs.Marks.{Marked, Paths, Trim, Divides, Sound, Still, Sweeps, tally, steps}
-use Rattle.evaluator.specs.declared.quantifier.Quantifier.{Quantifier}
+use Rattle.kripke.specs.declared.quantifier.Quantifier.{Quantifier}
 use Rattle.evaluator.proofs.Tallies.{tally_mark}
 use Rattle.evaluator.proofs.Untils.{at_once, one_more, outside}
 

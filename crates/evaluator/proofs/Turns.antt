@@ -4,9 +4,10 @@ use mathlib.Core.Bool.{beq}
 use Rattle.std.proofs.lemmas.Bool.{both_ways, cases_Bool, lt-ltb, le-ltb}
 use Rattle.kripke.specs.Structure.{Kripke, Lawful, size}
 use Rattle.kripke.specs.Ctl.{Path, Until, Always}
-use Rattle.evaluator.specs.Marks.{Complements, Divides, Marked, Paths, Trim, Whole, dual}
-use Rattle.evaluator.specs.declared.quantifier.Quantifier.{Quantifier}
-use Rattle.evaluator.specs.declared.quantifier.Quantifier.TheVariants as quantifier
+use Rattle.evaluator.specs.Marks.{Complements, Divides, Marked, Paths, Trim, Whole}
+use Rattle.kripke.specs.Quantifiers.{dual}
+use Rattle.kripke.specs.declared.quantifier.Quantifier.{Quantifier}
+use Rattle.kripke.specs.declared.quantifier.Quantifier.TheVariants as quantifier
 use Rattle.kripke.proofs.Walks.{path_inside}
 
 pub paths_map : (k : Kripke) (e : Quantifier) (s : ℕ) (Φ Ψ : (ℕ → ℕ) → Type 0) → ((p : ℕ → ℕ) → Path k s p → Φ p → Ψ p) → Paths k e s Φ → Paths k e s Ψ

@@ -4,9 +4,10 @@ use Rattle.std.proofs.lemmas.Bool.{both_ways, cases_Bool}
 use Rattle.std.specs.List.{list_all, list_any}
 use Rattle.kripke.specs.Structure.{Kripke, Closed, Member, size, successors}
 use Rattle.kripke.specs.Ctl.{Path, Until}
-use Rattle.evaluator.specs.Marks.{Marked, Paths, Sound, Still, dual, steps}
-use Rattle.evaluator.specs.declared.quantifier.Quantifier.{Quantifier}
-use Rattle.evaluator.specs.declared.quantifier.Quantifier.TheVariants as quantifier
+use Rattle.evaluator.specs.Marks.{Marked, Paths, Sound, Still, steps}
+use Rattle.kripke.specs.Quantifiers.{dual}
+use Rattle.kripke.specs.declared.quantifier.Quantifier.{Quantifier}
+use Rattle.kripke.specs.declared.quantifier.Quantifier.TheVariants as quantifier
 use Rattle.evaluator.proofs.Members.{every_yes, every_no, some_yes, some_no}
 use Rattle.kripke.proofs.Walks.{first, first_member, tail_path, second, ahead, ahead_path, from_here}
 

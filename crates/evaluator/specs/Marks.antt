@@ -3,12 +3,13 @@ use Rattle.std.specs.Prelude.{◌≡◌, ℕ, zero, suc, ◌+◌, ◌*◌, ◌/�
 use Rattle.kripke.specs.Structure.{Kripke, size, successors}
 use Rattle.kripke.specs.Ctl.{Formula, truth, OnSome, OnEach, Until}
 use Rattle.kripke.specs.Nodes.{Operator, constant, asking, unary, binary, applied, formula, WellFormed}
+use Rattle.kripke.specs.Quantifiers.{dual}
 use Rattle.kripke.specs.declared.node.Node.{Node}
 use Rattle.std.specs.Bool.{beq}
 use Rattle.std.specs.List.{list_all, list_any}
 use Rattle.evaluator.specs.Rows.{bit, at, Tells}
-use Rattle.evaluator.specs.declared.quantifier.Quantifier.{Quantifier}
-use Rattle.evaluator.specs.declared.quantifier.Quantifier.TheVariants as quantifier
+use Rattle.kripke.specs.declared.quantifier.Quantifier.{Quantifier}
+use Rattle.kripke.specs.declared.quantifier.Quantifier.TheVariants as quantifier
 
 -- The bit of state s in one row of four words.
 abbrev pub marks : List ℕ → ℕ → Bool
@@ -47,11 +48,6 @@ steps quantifier.ForAll q xs = list_all q xs
 abbrev pub Paths : Kripke → Quantifier → ℕ → ((ℕ → ℕ) → Type 0) → Type 0
 Paths k quantifier.Exists s Φ = OnSome k s Φ
 Paths k quantifier.ForAll s Φ = OnEach k s Φ
-
--- The quantifier of the negation.
-abbrev pub dual : Quantifier → Quantifier
-dual quantifier.Exists = quantifier.ForAll
-dual quantifier.ForAll = quantifier.Exists
 
 -- The marks divide the states by what is said of paths: a marked state has it on some path (or on each),
 -- an unmarked one has its negation on each path (or on some).

@@ -16,7 +16,6 @@ use kripke::node::Node;
 use kripke::refusal::Refusal;
 
 mod operators;
-pub mod quantifier;
 mod row;
 mod table;
 

@@ -4,12 +4,12 @@ ghost use Rattle.kripke.specs.Ctl.{Always, Next, Until};
 ghost use Rattle.kripke.specs.Nodes.{operator, operators};
 ghost use Rattle.kripke.specs.Structure.{answer, or_first, size, successors};
 
-use crate::quantifier::Quantifier;
 use crate::row::{Row, combine, first, mark, marked};
 use kripke::label::Label;
 use kripke::model::Model;
 use kripke::node::Node;
 use kripke::operator::Operator;
+use kripke::quantifier::Quantifier;
 
 // Every state.
 fn every_state<M: Model>(model: &M) -> Row

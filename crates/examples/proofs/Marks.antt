@@ -5,9 +5,10 @@ use Rattle.kripke.specs.Structure.{Kripke, Lawful, size, successors}
 use Rattle.kripke.specs.Ctl.{Formula, truth, question, and, or, EX, AX, EF, AF, EG, AG, EU, AU, Until, Always}
 use Rattle.kripke.proofs.Reflect.{T_true, and_T, or_T, below-T}
 use Rattle.evaluator.specs.Rows.{Tells}
-use Rattle.evaluator.specs.Marks.{Divides, Marked, Still, Trim, Whole, dual, steps}
-use Rattle.evaluator.specs.declared.quantifier.Quantifier.{Quantifier}
-use Rattle.evaluator.specs.declared.quantifier.Quantifier.TheVariants as quantifier
+use Rattle.evaluator.specs.Marks.{Divides, Marked, Still, Trim, Whole, steps}
+use Rattle.kripke.specs.Quantifiers.{dual}
+use Rattle.kripke.specs.declared.quantifier.Quantifier.{Quantifier}
+use Rattle.kripke.specs.declared.quantifier.Quantifier.TheVariants as quantifier
 use Rattle.evaluator.proofs.Untils.{one_more}
 use Rattle.evaluator.proofs.Sweeps.{Grown, sown, reaped}
 use Rattle.evaluator.proofs.Nexts.{next_divides}

@@ -7,8 +7,8 @@ use Rattle.kripke.specs.Nodes.{Operator, constant, asking, unary, binary, operat
 use Rattle.kripke.specs.Tests.{every, below, same, settled}
 use Rattle.kripke.specs.declared.node.Node.{Node}
 use Rattle.evaluator.specs.Marks.{steps}
-use Rattle.evaluator.specs.declared.quantifier.Quantifier.{Quantifier}
-use Rattle.evaluator.specs.declared.quantifier.Quantifier.TheVariants as quantifier
+use Rattle.kripke.specs.declared.quantifier.Quantifier.{Quantifier}
+use Rattle.kripke.specs.declared.quantifier.Quantifier.TheVariants as quantifier
 use Rattle.reader.specs.Tokens.{Stream, rest}
 use Rattle.reader.specs.Grammar.{Mark, mark}
 use Rattle.reader.specs.Phrases.{applied}

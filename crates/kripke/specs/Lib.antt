@@ -8,3 +8,4 @@ pub mod Tests
 pub mod Union
 pub mod Classes
 pub mod Theorems
+pub mod Quantifiers

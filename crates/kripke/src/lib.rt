@@ -6,5 +6,6 @@ pub mod label;
 pub mod model;
 pub mod node;
 pub mod operator;
+pub mod quantifier;
 pub mod refusal;
 pub mod theory;

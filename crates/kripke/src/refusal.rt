@@ -64,6 +64,7 @@ impl Layer {
     }
 }
 
+// A refusal has two numbers, so each is asked for by its name.
 impl Refusal {
     // The number of the cause.
     pub fn number(&self) -> u8

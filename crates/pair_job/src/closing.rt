@@ -1,6 +1,3 @@
-ghost use Rattle.std.specs.Prelude.{◌≡◌};
-ghost use Rattle.compare.specs.Calls.{Same, first, rounds, second};
-ghost use Rattle.kripke.specs.Rounds.{FirstClosed};
 ghost use Rattle.pair_job.specs.Reports.{Closed, Reported, Stands};
 
 use compare::comparison::Comparison;
@@ -11,16 +8,6 @@ use kripke::refusal::{Error, Refusal};
 use report::report::Report;
 use report::write::report_text;
 use std::alloc::Global;
-
-// Makes rounds until one is refused, which is when the comparison is closed.
-#[tactic(auto, using(crate::proofs::Going::goes_on))]
-fn close(comparison: &mut Comparison)
-    requires { rounds comparison.old ≡ 0 }
-    ensures same { Same comparison.old comparison.new }
-    ensures closed { FirstClosed (first comparison.old) (second comparison.old) (rounds comparison.new) }
-{
-    while let Ok(_) = comparison.round() {}
-}
 
 // The report of a closed comparison, whose readings refuse nothing.
 fn report(comparison: &Comparison) -> Result<Report<'_>, Refusal>
@@ -47,6 +34,6 @@ pub(crate) fn report_models<L: Label, M: Model<Label = L>, N: Model<Label = L>>(
     ensures { Reported L.Label.count (M.Model.meaning first.now) (N.Model.meaning second.now) result }
 {
     let mut comparison = Comparison::open(heap, first, second)?;
-    close(&mut comparison);
+    comparison.close();
     report_text(heap, report(&comparison)?)
 }

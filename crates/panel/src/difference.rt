@@ -17,11 +17,6 @@ use printer::print_formula;
 use std::alloc::{AllocError, Global};
 use std::fmt;
 
-// Makes rounds until one is refused, which is when the comparison is closed.
-fn close(comparison: &mut Comparison) {
-    while comparison.round().is_ok() {}
-}
-
 // A table of nodes, a line a node.
 #[derive(Drop)]
 struct Table<'a>(&'a [Node]);
@@ -70,7 +65,7 @@ fn of_kind<L: Coded>(heap: Global, old: &[u8], new: &[u8]) -> Result<String, Fai
     let old = load::<L>(heap, old, Slot::First)?;
     let new = load::<L>(heap, new, Slot::Second)?;
     let mut comparison = Comparison::open(heap, &old, &new)?;
-    close(&mut comparison);
+    comparison.close();
     let verdict = comparison.verdict()?;
     match verdict.outcome {
         Outcome::Alike => Ok(alike(heap, verdict.rounds, old.states(), new.states())?),

@@ -4,7 +4,7 @@ use Rattle.reader.specs.declared.token.Token.{Token}
 use Rattle.reader.specs.declared.token.Token.TheVariants.{Truth, Question, Unary, Alone, Sign, Other, End}
 use Rattle.reader.specs.declared.token.Unary.TheVariants.{Not, EX, AX, EF, AF, EG, AG}
 use Rattle.reader.specs.declared.token.Sign.TheVariants.{And, Or, Open, Close, Left, Right, Until}
-use Rattle.reader.specs.declared.token.Quantifier.TheVariants.{Exists, Forall}
+use Rattle.kripke.specs.declared.quantifier.Quantifier.TheVariants.{Exists, ForAll}
 use Rattle.reader.specs.Tokens.{single, operator, acting, lex, tokens, kinds}
 use Rattle.printer.specs.Spelling.{spell, spelt}
 use Rattle.printer.proofs.Numerals.{Clear, Begins, question_begins}
@@ -35,7 +35,7 @@ clear (Unary AF) h r = (refl, refl, refl, refl)
 clear (Unary EG) h r = (refl, refl, refl, refl)
 clear (Unary AG) h r = (refl, refl, refl, refl)
 clear (Alone Exists) h r = (refl, refl, refl, refl)
-clear (Alone Forall) h r = (refl, refl, refl, refl)
+clear (Alone ForAll) h r = (refl, refl, refl, refl)
 clear (Sign And) h r = (refl, refl, refl, refl)
 clear (Sign Or) h r = (refl, refl, refl, refl)
 clear (Sign Open) h r = (refl, refl, refl, refl)
@@ -75,8 +75,8 @@ lexed (Unary EG) h o r g = (suc (suc (suc o)), refl)
 lexed (Unary AG) h o r g = (suc (suc (suc o)), refl)
 lexed (Alone Exists) h o [] g = (suc o, refl)
 lexed (Alone Exists) h o (b ∷ r) g = (suc o, rw (g.1, g.2, g.3))
-lexed (Alone Forall) h o [] g = (suc o, refl)
-lexed (Alone Forall) h o (b ∷ r) g = (suc o, rw (g.1, g.2, g.3))
+lexed (Alone ForAll) h o [] g = (suc o, refl)
+lexed (Alone ForAll) h o (b ∷ r) g = (suc o, rw (g.1, g.2, g.3))
 lexed (Sign And) h o r g = one_byte 38 r o refl refl refl refl
 lexed (Sign Or) h o r g = one_byte 124 r o refl refl refl refl
 lexed (Sign Open) h o r g = one_byte 40 r o refl refl refl refl

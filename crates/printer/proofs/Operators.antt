@@ -5,7 +5,7 @@ use Rattle.kripke.specs.Nodes.{operators, constant}
 use Rattle.reader.specs.declared.token.Token.TheVariants as token
 use Rattle.reader.specs.declared.token.Unary.TheVariants as unary
 use Rattle.reader.specs.declared.token.Sign.TheVariants.{And, Or, Open, Close, Left, Right, Until}
-use Rattle.reader.specs.declared.token.Quantifier.TheVariants.{Exists, Forall}
+use Rattle.kripke.specs.declared.quantifier.Quantifier.TheVariants.{Exists, ForAll}
 use Rattle.printer.specs.declared.signs.Signs.{Signs}
 use Rattle.printer.specs.Writing.{One, Two, Written}
 
@@ -75,7 +75,7 @@ two_eu = record {
 
 pub two_au : Two AU (65 ∷ 91 ∷ []) (32 ∷ 85 ∷ 32 ∷ []) (93 ∷ [])
 two_au = record {
-  opening = token.Alone Forall;
+  opening = token.Alone ForAll;
   free = λ q. tt;
   left = Left ∷ [];
   middle = Until;

@@ -5,7 +5,7 @@ use Rattle.reader.specs.declared.token.Token.{Token}
 use Rattle.reader.specs.declared.token.Token.TheVariants.{Truth, Question, Unary, Alone, Sign, Other, End}
 use Rattle.reader.specs.declared.token.Unary.TheVariants.{Not, EX, AX, EF, AF, EG, AG}
 use Rattle.reader.specs.declared.token.Sign.TheVariants.{And, Or, Open, Close, Left, Right, Until}
-use Rattle.reader.specs.declared.token.Quantifier.TheVariants.{Exists, Forall}
+use Rattle.kripke.specs.declared.quantifier.Quantifier.TheVariants.{Exists, ForAll}
 use Rattle.reader.specs.Grammar.{marks, toks}
 
 -- An operator of two letters has a space behind it, and U one on either side.
@@ -20,7 +20,7 @@ spell (Unary AF) = codes "AF "
 spell (Unary EG) = codes "EG "
 spell (Unary AG) = codes "AG "
 spell (Alone Exists) = codes "E"
-spell (Alone Forall) = codes "A"
+spell (Alone ForAll) = codes "A"
 spell (Sign And) = codes "&"
 spell (Sign Or) = codes "|"
 spell (Sign Open) = codes "("

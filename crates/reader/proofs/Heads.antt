@@ -5,7 +5,7 @@ use Rattle.reader.specs.declared.token.Token.{Token}
 use Rattle.reader.specs.declared.token.Token.TheVariants as token
 use Rattle.reader.specs.declared.token.Unary.{Unary}
 use Rattle.reader.specs.declared.token.Unary.TheVariants as unary
-use Rattle.reader.specs.declared.token.Quantifier.TheVariants.{Exists, Forall}
+use Rattle.kripke.specs.declared.quantifier.Quantifier.TheVariants.{Exists, ForAll}
 use Rattle.reader.specs.declared.head.Opening.{Opening}
 use Rattle.reader.specs.declared.head.Opening.TheVariants.{Pair, Until}
 use Rattle.reader.specs.declared.head.Head.{Head}
@@ -52,7 +52,7 @@ built_marks l (head.Unary u) x = applied_marks l u x
 built_marks l (head.Binary Pair) (a, (f, (conj, (g, b)))) = refl
 built_marks l (head.Binary Pair) (a, (f, (disj, (g, b)))) = refl
 built_marks l (head.Binary (Until Exists)) x = refl
-built_marks l (head.Binary (Until Forall)) x = refl
+built_marks l (head.Binary (Until ForAll)) x = refl
 
 -- Each formula has a head.
 pub headed : (n : ℕ) (f : Formula) → (h : Head) × (x : (Tail n h).A) × (f ≡ built n h x)
@@ -68,7 +68,7 @@ headed n (AF f) = (head.Unary unary.AF, f, refl)
 headed n (EG f) = (head.Unary unary.EG, f, refl)
 headed n (AG f) = (head.Unary unary.AG, f, refl)
 headed n (EU f g) = (head.Binary (Until Exists), (tt, (f, (tt, (g, tt)))), refl)
-headed n (AU f g) = (head.Binary (Until Forall), (tt, (f, (tt, (g, tt)))), refl)
+headed n (AU f g) = (head.Binary (Until ForAll), (tt, (f, (tt, (g, tt)))), refl)
 
 pub head_back : (h : Head) → head_of (opening h) ≡ Some h
 head_back head.Truth = refl
@@ -116,7 +116,7 @@ induction P t q u b (AF f) = u unary.AF f (induction P t q u b f)
 induction P t q u b (EG f) = u unary.EG f (induction P t q u b f)
 induction P t q u b (AG f) = u unary.AG f (induction P t q u b f)
 induction P t q u b (EU f g) = b (Until Exists) tt f g (induction P t q u b f) (induction P t q u b g)
-induction P t q u b (AU f g) = b (Until Forall) tt f g (induction P t q u b f) (induction P t q u b g)
+induction P t q u b (AU f g) = b (Until ForAll) tt f g (induction P t q u b f) (induction P t q u b g)
 
 -- One reading.
 head_unique : (l : ℕ) (h : Head) (x : (Tail (suc l) h).A) → UniqueAt (Tail (suc l) h) x → UniqueAt (Form l) (built (suc l) h x)

@@ -8,7 +8,7 @@ use Rattle.kripke.specs.declared.node.Node.{Node}
 use Rattle.reader.specs.declared.token.Token.TheVariants as token
 use Rattle.reader.specs.declared.token.Unary.{Unary}
 use Rattle.reader.specs.declared.token.Unary.TheVariants as unary
-use Rattle.reader.specs.declared.token.Quantifier.TheVariants.{Exists, Forall}
+use Rattle.kripke.specs.declared.quantifier.Quantifier.TheVariants.{Exists, ForAll}
 use Rattle.reader.specs.declared.head.Opening.{Opening}
 use Rattle.reader.specs.declared.head.Opening.TheVariants.{Pair, Until}
 use Rattle.reader.specs.declared.head.Head.TheVariants as head
@@ -56,7 +56,7 @@ joined_lawful : (q i a b : ℕ) (o : Opening) (m : (Middle o).A) → a < i → b
 joined_lawful q i a b Pair conj h g = (omega arith, (h, g))
 joined_lawful q i a b Pair disj h g = (omega arith, (h, g))
 joined_lawful q i a b (Until Exists) m h g = (omega arith, (h, g))
-joined_lawful q i a b (Until Forall) m h g = (omega arith, (h, g))
+joined_lawful q i a b (Until ForAll) m h g = (omega arith, (h, g))
 
 abbrev Lawful-from : ℕ → Formula → Type 0
 Lawful-from q f = (l i : ℕ) → All q (marks l f) → Ordered-from q i (nodes i f)

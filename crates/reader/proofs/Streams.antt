@@ -4,7 +4,7 @@ use Rattle.reader.specs.declared.token.Token.{Token}
 use Rattle.reader.specs.declared.token.Token.TheVariants.{End, Truth, Question, Unary, Alone, Sign, Other}
 use Rattle.reader.specs.declared.token.Sign.TheVariants.{And, Or, Open, Close, Left, Right, Until}
 use Rattle.reader.specs.declared.token.Unary.TheVariants.{Not}
-use Rattle.reader.specs.declared.token.Quantifier.TheVariants.{Exists, Forall}
+use Rattle.kripke.specs.declared.quantifier.Quantifier.TheVariants.{Exists, ForAll}
 use Rattle.reader.specs.Tokens.{single, operator, numeral, asking, acting, lex, Stream, done, next, first, offset, kinds, After, tokens}
 
 -- Any token but the end.
@@ -34,7 +34,7 @@ single_real : (b : ℕ) → Real (single b)
 single_real b =
     pick (eqb b 84) Truth _ tt (pick (eqb b 33) (Unary Not) _ tt (pick (eqb b 38) (Sign And) _ tt (pick (eqb b 124) (Sign Or) _ tt
     (pick (eqb b 40) (Sign Open) _ tt (pick (eqb b 41) (Sign Close) _ tt (pick (eqb b 91) (Sign Left) _ tt (pick (eqb b 93) (Sign Right) _ tt
-    (pick (eqb b 85) (Sign Until) _ tt (pick (eqb b 69) (Alone Exists) _ tt (pick (eqb b 65) (Alone Forall) Other tt tt))))))))))
+    (pick (eqb b 85) (Sign Until) _ tt (pick (eqb b 69) (Alone Exists) _ tt (pick (eqb b 65) (Alone ForAll) Other tt tt))))))))))
 
 asking_real : (o : Option (ℕ × ℕ)) → Real (asking o).0
 asking_real None = tt

@@ -6,7 +6,7 @@ use Rattle.kripke.specs.Nodes.{code_of, made, grown, formulas, root}
 use Rattle.kripke.specs.declared.node.Node.{Node}
 use Rattle.reader.specs.declared.token.Unary.{Unary}
 use Rattle.reader.specs.declared.token.Unary.TheVariants as unary
-use Rattle.reader.specs.declared.token.Quantifier.TheVariants.{Exists, Forall}
+use Rattle.kripke.specs.declared.quantifier.Quantifier.TheVariants.{Exists, ForAll}
 use Rattle.reader.specs.declared.head.Opening.{Opening}
 use Rattle.reader.specs.declared.head.Opening.TheVariants.{Pair, Until}
 use Rattle.reader.specs.Phrases.{conj, disj, Middle, applied, applied_by, joined, joined_by}
@@ -27,7 +27,7 @@ pub joined_nodes : (i : ℕ) (o : Opening) (m : (Middle o).A) (f g : Formula) �
 joined_nodes i Pair conj f g = refl
 joined_nodes i Pair disj f g = refl
 joined_nodes i (Until Exists) m f g = refl
-joined_nodes i (Until Forall) m f g = refl
+joined_nodes i (Until ForAll) m f g = refl
 
 -- A table is not empty.
 pub some_node : (f : Formula) (i : ℕ) → 1 ≤ length (nodes i f)
@@ -62,7 +62,7 @@ made_joined : (o : Opening) (m : (Middle o).A) (fs : List Formula) (j k : ℕ) �
 made_joined Pair conj fs j k = refl
 made_joined Pair disj fs j k = refl
 made_joined (Until Exists) m fs j k = refl
-made_joined (Until Forall) m fs j k = refl
+made_joined (Until ForAll) m fs j k = refl
 
 last_one : (fs gs : List Formula) (f : Formula) (n : ℕ) → length fs + length gs ≡ n → get_or (fs ++ (gs ++ (f ∷ []))) n truth ≡ f
 last_one fs gs f n e =

@@ -6,8 +6,8 @@ use Rattle.reader.specs.declared.token.Token.TheVariants.{Truth, Question, Unary
 use Rattle.reader.specs.declared.token.Sign as sign
 use Rattle.reader.specs.declared.token.Sign.TheVariants.{And, Or, Open, Close, Left, Right, Until}
 use Rattle.reader.specs.declared.token.Unary.TheVariants as unary
-use Rattle.reader.specs.declared.token.Quantifier.{Quantifier}
-use Rattle.reader.specs.declared.token.Quantifier.TheVariants.{Exists, Forall}
+use Rattle.kripke.specs.declared.quantifier.Quantifier.{Quantifier}
+use Rattle.kripke.specs.declared.quantifier.Quantifier.TheVariants.{Exists, ForAll}
 use Rattle.reader.specs.Tokens.{tokens, kinds}
 
 -- A token of a formula, and the level of the subformula that begins with it; 0 where none does.
@@ -35,7 +35,7 @@ marks l (AF f) = mark (Unary unary.AF) l ∷ marks (suc l) f
 marks l (EG f) = mark (Unary unary.EG) l ∷ marks (suc l) f
 marks l (AG f) = mark (Unary unary.AG) l ∷ marks (suc l) f
 marks l (EU f g) = until l Exists (marks (suc l) f) (marks (suc l) g)
-marks l (AU f g) = until l Forall (marks (suc l) f) (marks (suc l) g)
+marks l (AU f g) = until l ForAll (marks (suc l) f) (marks (suc l) g)
 
 abbrev pub toks : List Mark → List Token
 toks [] = []

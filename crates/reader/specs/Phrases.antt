@@ -13,7 +13,7 @@ use Rattle.reader.specs.declared.token.Sign.{Sign}
 use Rattle.reader.specs.declared.token.Sign.TheVariants as sign
 use Rattle.reader.specs.declared.token.Unary.{Unary}
 use Rattle.reader.specs.declared.token.Unary.TheVariants as unary
-use Rattle.reader.specs.declared.token.Quantifier.TheVariants.{Exists, Forall}
+use Rattle.kripke.specs.declared.quantifier.Quantifier.TheVariants.{Exists, ForAll}
 use Rattle.reader.specs.declared.head.Opening.{Opening}
 use Rattle.reader.specs.declared.head.Opening.TheVariants.{Pair, Until}
 use Rattle.reader.specs.declared.head.Head.{Head}
@@ -73,13 +73,13 @@ abbrev pub joined : (o : Opening) → (Middle o).A → Formula → Formula → F
 joined Pair conj f g = and f g
 joined Pair disj f g = or f g
 joined (Until Exists) m f g = EU f g
-joined (Until Forall) m f g = AU f g
+joined (Until ForAll) m f g = AU f g
 
 abbrev pub joined_by : (o : Opening) → (Middle o).A → Operator
 joined_by Pair conj = operator.And
 joined_by Pair disj = operator.Or
 joined_by (Until Exists) m = operator.EU
-joined_by (Until Forall) m = operator.AU
+joined_by (Until ForAll) m = operator.AU
 
 -- The formula of one argument, and its operator.
 abbrev pub applied : Unary → Formula → Formula

@@ -6,14 +6,14 @@ use Rattle.reader.specs.declared.token.Token.TheVariants as token
 use Rattle.reader.specs.declared.token.Sign.TheVariants.{And, Or, Open, Close, Left, Right, Until}
 use Rattle.reader.specs.declared.token.Unary.{Unary}
 use Rattle.reader.specs.declared.token.Unary.TheVariants.{Not, EX, AX, EF, AF, EG, AG}
-use Rattle.reader.specs.declared.token.Quantifier.TheVariants.{Exists, Forall}
+use Rattle.kripke.specs.declared.quantifier.Quantifier.TheVariants.{Exists, ForAll}
 
 -- The tokens of one byte: T ! & | ( ) [ ] U, E or A alone, and any other byte.
 abbrev pub single : ℕ → Token
 single b =
     cond (b == 84) Truth (cond (b == 33) (token.Unary Not) (cond (b == 38) (Sign And) (cond (b == 124) (Sign Or)
     (cond (b == 40) (Sign Open) (cond (b == 41) (Sign Close) (cond (b == 91) (Sign Left) (cond (b == 93) (Sign Right)
-    (cond (b == 85) (Sign Until) (cond (b == 69) (Alone Exists) (cond (b == 65) (Alone Forall) Other))))))))))
+    (cond (b == 85) (Sign Until) (cond (b == 69) (Alone Exists) (cond (b == 65) (Alone ForAll) Other))))))))))
 
 -- The operators of two bytes: E or A directly before X, F or G.
 abbrev pub step : ℕ → Unary → Unary → Unary → Option Unary

@@ -4,8 +4,9 @@ ghost use Rattle.reader.specs.Tokens.{is_space};
 
 use crate::LEVELS;
 use crate::head::{Head, Opening};
-use crate::token::{Quantifier, Sign, Token, leading_token};
+use crate::token::{Sign, Token, leading_token};
 use kripke::operator::Operator;
+use kripke::quantifier::Quantifier;
 use kripke::refusal::{Cause, Layer, Refusal};
 
 // A text, and how far it has been read.
@@ -96,7 +97,7 @@ impl<'a> Cursor<'a> {
                 self.expect(Sign::Until)?;
                 match quantifier {
                     Quantifier::Exists => Ok(Operator::EU),
-                    Quantifier::Forall => Ok(Operator::AU),
+                    Quantifier::ForAll => Ok(Operator::AU),
                 }
             }
         }

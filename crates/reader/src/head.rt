@@ -3,7 +3,8 @@ ghost use Rattle.reader.specs.Phrases.{head_of, opening};
 ghost use Rattle.reader.specs.declared.token.Token.TheVariants.{Question};
 ghost use Rattle.std.specs.Prelude.{◌≡◌, ℕ, ◌≤◌, MatchBool, Some, None};
 
-use crate::token::{Quantifier, Sign, Token, Unary};
+use crate::token::{Sign, Token, Unary};
+use kripke::quantifier::Quantifier;
 
 // How an operator of two arguments begins: with (, or with E or A.
 #[derive(Clone, Copy)]

@@ -3,6 +3,7 @@ ghost use Rattle.reader.specs.Phrases.{applied_by};
 ghost use Rattle.reader.specs.Tokens.{lex, numeral, operator, single};
 
 use kripke::operator::Operator;
+use kripke::quantifier::Quantifier;
 
 // The operators of one argument.
 #[derive(Clone, Copy, PartialEq, Eq)]
@@ -14,13 +15,6 @@ pub enum Unary {
     AF,
     EG,
     AG,
-}
-
-// On some path, or on every one.
-#[derive(Clone, Copy, PartialEq, Eq)]
-pub enum Quantifier {
-    Exists,
-    Forall,
 }
 
 // The signs & | ( ) [ ] U.
@@ -78,7 +72,7 @@ fn byte_token(byte: u8) -> Token
         b']' => Token::Sign(Sign::Right),
         b'U' => Token::Sign(Sign::Until),
         b'E' => Token::Alone(Quantifier::Exists),
-        b'A' => Token::Alone(Quantifier::Forall),
+        b'A' => Token::Alone(Quantifier::ForAll),
         _ => Token::Other,
     }
 }

@@ -41,6 +41,7 @@ impl<L: Coded> StoredModel<L> {
     pub fn new(heap: Global) -> Result<StoredModel<L>, AllocError>
         ensures { IfOk result (λ m. Fresh L.Coded.coding (meaning_of L.Label.answers m)) }
     {
+        // Pushed, since `vec!` would owe that a row of any label fits in memory.
         let mut rows = Vec::new(heap);
         rows.push(Row {
             label: L::fresh(),

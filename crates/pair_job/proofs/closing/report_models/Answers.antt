@@ -1,16 +1,13 @@
 use Rattle.std.proofs.Common.{◌≡◌, ℕ, sym, ◌∙◌, subst}
 use Rattle.kripke.specs.Structure.{Kripke, Lawful}
-use Rattle.kripke.specs.Rounds.{FirstClosed}
-use Rattle.compare.specs.Calls.{rounds}
 use Rattle.report.specs.Text.{report_text}
 use Rattle.pair_job.specs.Reports.{Reports}
-use Rattle.pair_job.proofs.Going.{of_equal}
 use Rattle.pair_job.proofs.Reporting.{reported}
 use Rattle.pair_job.proofs.closing.report_models.Goals as goal
 
 -- What holds of equal structures and their questions.
 moved : (P : ℕ → Kripke → Kripke → Type 0) {p q : ℕ} {a b c d : Kripke} → p ≡ q → a ≡ c → b ≡ d → P p a b → P q c d
-moved P {p} {q} {a} {b} {c} {d} e f g x = subst (λ (n : ℕ). P n c d) e (of_equal (P p) f g x)
+moved P {p} {q} {a} {b} {c} {d} e f g x = subst (λ (n : ℕ). P n c d) e (subst (λ (z : Kripke). P p c z) g (subst (λ (z : Kripke). P p z b) f x))
 
 pub report-requires : goal.report-requires
 report-requires g c =
@@ -22,7 +19,7 @@ report-requires g c =
     record {
       first_lawful = moved (λ n x y. Lawful n x) q a b (g.met.M.Model.lawful c.args.first.now);
       second_lawful = moved (λ n x y. Lawful n y) q a b (g.met.N.Model.lawful c.args.second.now);
-      closed = of_equal (λ x y. FirstClosed x y (rounds c.close.new.comparison)) (sym s.first_is) (sym s.second_is) c.close.ensures.closed;
+      closed = c.close.ensures.closed;
     }
 
 pub returns : goal.returns

@@ -1,5 +1,5 @@
+ghost use Rattle.kripke.specs.Quantifiers.{dual};
 ghost use Rattle.std.specs.Prelude.{◌≡◌};
-ghost use Rattle.evaluator.specs.Marks.{dual};
 
 // The path quantifiers of CTL: E, on some path, and A, on each path.
 #[derive(Clone, Copy, PartialEq, Eq, Debug)]
@@ -10,7 +10,7 @@ pub enum Quantifier {
 
 impl Quantifier {
     // The quantifier that tells of the negation.
-    pub(crate) fn dual(self) -> Quantifier
+    pub fn dual(self) -> Quantifier
         ensures { result ≡ dual self }
     {
         match self {
