@@ -7,7 +7,8 @@ use kripke::operator::Operator;
 use refine::nodes::Nodes;
 use refine::partition::Partition;
 
-// Nodes name each other by number, so the loops below go over the numbers. Their tables are arrays, since a round allocates nothing.
+// Nodes name each other by number, so the loops below go over the numbers. Their tables are arrays, since a round allocates nothing,
+// and two of them, since marks go down from the root and new numbers up to it.
 
 // The nodes that a node names. In a next-only table the last arm is that of `not` and EX.
 fn operands(node: Node) -> (Option<u16>, Option<u16>)
@@ -53,7 +54,7 @@ fn place(operand: Option<u16>, to: &[u16; 2048]) -> Option<u16>
     Some(to[operand? as usize])
 }
 
-// Which nodes the root reaches. What a node names is earlier, so one way down does.
+// Which nodes the root reaches. What a node names is earlier, so one pass down is enough.
 #[tactic(auto, using(crate::proofs::Renames::nodes_fit))]
 fn reach(parts: &Partition, root: usize) -> [bool; 2048]
     requires { root < length parts.now.nodes.list.items }
@@ -89,7 +90,7 @@ fn copy(parts: &Partition, root: usize, reached: &[bool; 2048], out: &mut Nodes)
     }
 }
 
-// The nodes that the root reaches, in their order, renumbered.
+// The nodes that the root reaches, in their order, renumbered. A struct of the partition and the root would be made for these two calls alone.
 pub(crate) fn prune(parts: &Partition, root: usize, out: &mut Nodes)
     requires inside { root < length parts.now.nodes.list.items }
     requires empty { out.old.list.items ≡ [] }

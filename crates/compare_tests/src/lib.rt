@@ -13,6 +13,7 @@ mod tests {
     use kripke::label::Label;
     use kripke::model::Model;
     use kripke::node::Node;
+    use kripke::operator::Operator;
     use kripke::refusal::{Cause, Layer, Refusal};
     use labels::coded::Coded;
     use labels::kind::Kind;
@@ -25,6 +26,7 @@ mod tests {
     use std::test::Fail;
 
     // An image: of each state its label and first link, and of each link its target and next link.
+    // Other tests build what their cases need: one builder for all of them would be longer than each.
     fn image(
         heap: Global,
         kind: Kind,
@@ -101,11 +103,7 @@ mod tests {
         second: &N,
         nodes: usize,
     ) -> Result<(), Fail> {
-        let filler = Node {
-            code: 9,
-            a: 9,
-            b: 9,
-        };
+        let filler = Node::new(Operator::EG, 9, 9);
         let mut places = vec![in heap; filler; 2045]?;
         let mut table = vec![in heap; 0; 8180]?;
         assert_eq!(rt; comparison.formula(places.as_mut_slice()), Ok(nodes));

@@ -94,7 +94,7 @@ fn until<M: Model>(model: &M, quantifier: Quantifier, f: &Row, g: &Row, row: &mu
     while sweep(model, quantifier, f, row) {}
 }
 
-// EG f, or AG f: a state has it where not each path (not some path) comes to a state that lacks f.
+// EG f, or AG f: a state has it where not each path, or no path, comes to a state that lacks f.
 fn always<M: Model>(model: &M, quantifier: Quantifier, f: &Row, row: &mut Row)
     ensures { Trim (M.meaning model.now) (marks f.now) → Divides (M.meaning model.now) quantifier (Always (Marked (marks f.now))) (marks row.new) }
 {

@@ -5,6 +5,7 @@ ghost use Rattle.evaluator.specs.Marks.{marks, tally};
 use std::array;
 
 // A set of states, as it lies in the words of a table: state s is bit s mod 64 of word s div 64.
+// An array and not a struct, and written in place: the words are the caller's, and a row is lent where it lies.
 pub(crate) type Row = [u64; 4];
 
 // Whether state s is marked.

@@ -29,7 +29,8 @@ pub(crate) fn check(questions: usize, nodes: &[Node], words: usize) -> Result<()
     Ok(())
 }
 
-// The row of an operand, which is an earlier node; a number that names none gives no marks.
+// The row of an operand, which is an earlier node. A number that names none gives no marks, and no option:
+// a leaf's row does not depend on it, and every other operator would have to take the option apart.
 fn operand(words: &[u64], i: usize, x: u16) -> Row
     requires { 4 * i ≤ length words.now }
     ensures { x < i → (s : ℕ) → s < 256 → marks result s ≡ at words.now x s }

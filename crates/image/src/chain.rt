@@ -4,7 +4,7 @@ ghost use Rattle.image.specs.Image;
 
 use crate::records::Records;
 
-// A state has no more successors.
+// The most successors that a state has.
 pub(crate) const MOST_SUCCESSORS: usize = 16;
 
 // Records whose states all have a first link, and whose links all lead to states and go on to links or end.

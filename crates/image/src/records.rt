@@ -174,7 +174,7 @@ impl<'a> Records<'a> {
         number(self.image, self.link_at(l))
     }
 
-    // The link after link l, or 0 where a chain ends.
+    // The link after link l, as the image has it: 0 where a chain ends.
     pub(crate) fn after(&self, l: usize) -> usize
         requires { Image.Link self.now.image.now l }
         ensures { result ≡ Image.after self.now.image.now l }

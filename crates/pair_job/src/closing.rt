@@ -15,6 +15,7 @@ fn report(comparison: &Comparison) -> Result<Report<'_>, Refusal>
     ensures { Stands comparison.now result }
 {
     let verdict = comparison.verdict()?;
+    // A comparison closes within as many rounds as there are states, 512 at most.
     let rounds = verdict.rounds as u16;
     match verdict.outcome {
         Outcome::Alike => Ok(Report::Alike { rounds }),

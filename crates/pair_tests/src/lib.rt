@@ -9,7 +9,7 @@ mod tests {
     use std::process::Abort;
     use std::test::Fail;
 
-    // The kind bytes of signal words and of readings, and one that is no kind's.
+    // The kind bytes of signal words and of readings, and one that is no kind's: bytes, since these tests are on bytes.
     const SIGNAL_WORDS: u8 = 1;
 
     const READINGS: u8 = 2;

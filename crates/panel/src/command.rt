@@ -31,7 +31,7 @@ fn rule(heap: Global, word: &str) -> Result<Rule, Failure> {
     }
 }
 
-// The bits, the initial state and the rules; a number that is missing is told as an empty word.
+// The bits, the initial state and the rules. A number that is missing is an empty word, as the tool tells it.
 fn on_rules(heap: Global, words: &[&str], task: Task) -> Result<String, Failure> {
     let mut words = words.iter().copied();
     let bits = number(heap, words.next().unwrap_or(""))?;

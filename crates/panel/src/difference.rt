@@ -17,7 +17,7 @@ use printer::print_formula;
 use std::alloc::{AllocError, Global};
 use std::fmt;
 
-// A table of nodes, a line a node.
+// A table of nodes, a line a node. The crate `report` writes such lines too, but into given bytes and below a head of its own.
 #[derive(Drop)]
 struct Table<'a>(&'a [Node]);
 

@@ -19,7 +19,7 @@ impl Marks {
         Ok(Marks { rows, root })
     }
 
-    // Whether node i holds at state s.
+    // Whether node i holds at state s; a number that names none holds nowhere, where the evaluator's own reading would owe that it is in range.
     pub(crate) fn holds(&self, i: usize, s: usize) -> bool {
         self.rows
             .get(i.saturating_mul(4).saturating_add(s / 64))

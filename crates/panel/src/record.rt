@@ -12,6 +12,7 @@ enum Fault {
 
 impl Fault {
     // A record has four bytes of its label, two of its first link, and two that are zero.
+    // Read once more, since a refusal tells a number and a place, and not what is wrong inside a record.
     fn of<L: Coded>(record: &[u8]) -> Fault {
         match record {
             [a, b, c, d, ..] if L::decode([*a, *b, *c, *d]).is_none() => Fault::NoLabel,

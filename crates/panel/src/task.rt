@@ -17,7 +17,7 @@ use rules::rule::Rule;
 use std::alloc::Global;
 use std::fmt;
 
-// A listing, a graph, or a condition to check.
+// A listing, a graph, or a condition to check. No closure, since what is done is generic in the model.
 #[derive(Clone, Copy)]
 pub(crate) enum Task<'a> {
     List,

@@ -92,7 +92,7 @@ pub(crate) fn trial<M: Model>(
         "  start: OLD in state {}, NEW in state {}\n",
         old.state, new.state
     )?;
-    // A part stands before the node that it is a part of, so there are no more steps than nodes.
+    // A part stands before the node that it is a part of, so there are no more steps than nodes; a loop without their number would owe that it ends.
     let mut i = nodes.len().saturating_sub(1);
     for _ in 0..nodes.len() {
         let Some(node) = nodes.get(i) else {

@@ -29,6 +29,7 @@ impl From<AllocError> for Stop {
 }
 
 // Writes a text from its first byte on, and no more bytes than the reader of formulas takes. A clause sees the bytes so far.
+// No `Display`: its error would not say whether a limit or want of memory stopped it.
 #[derive(Drop)]
 pub(crate) struct Writer {
     text: String,

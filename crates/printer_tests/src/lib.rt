@@ -121,6 +121,7 @@ mod tests {
         chain(&mut deep, |before| Node::new(Not, before, 0));
         let mut wide = [Node::new(Question, 0, 0); 11];
         chain(&mut wide, |before| Node::new(And, before, before));
+        // A code that is no operator's.
         let unknown = Node {
             code: 13,
             a: 0,

@@ -73,7 +73,7 @@ impl<'a> Cursor<'a> {
         }
     }
 
-    // & or |, tested one by one: the last arm of a match would not say which signs are left out.
+    // & or |, tested one by one: with a match, the proof lacked at the last arm that neither sign stood there.
     fn link(&mut self) -> Result<Operator, Refusal>
         ensures { (c : ℕ) → Owes Linked (λ k operator. operator ≡ joined_by Pair k) c (ahead self.old) (ahead self.new) result }
     {

@@ -16,10 +16,10 @@ mod passes;
 mod reader;
 mod token;
 
-// A text has no more bytes.
+// The most bytes of a text.
 pub const TEXT_BYTES: usize = 4096;
 
-// A formula has no more levels.
+// The most levels of a formula.
 pub const LEVELS: u8 = 64;
 
 // Reads the text as a formula on the given number of questions: writes its nodes from the first place on, and gives their number.

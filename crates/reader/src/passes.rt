@@ -32,7 +32,7 @@ fn check_nodes(text: &[u8], questions: usize, room: usize) -> Result<(), Refusal
     Ok(())
 }
 
-// The first pass, which writes nothing: all that can be refused.
+// The first pass, which writes nothing: all that can be refused. It has the number of places only, so it cannot hold them as a reader does.
 pub(crate) fn check_text(text: &[u8], questions: usize, room: usize) -> Result<(), Refusal>
     ensures { MatchResult result (λ _. (f : Formula) × Readable text.now questions room f) (λ e. Refuses text.now questions room e) }
 {

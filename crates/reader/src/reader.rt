@@ -11,7 +11,8 @@ use kripke::node::Node;
 use kripke::operator::Operator;
 use kripke::refusal::{Cause, Layer, Refusal};
 
-// A text that is read as a formula on so many questions, the places for its nodes, and how many have been made.
+// A text that is read as a formula on so many questions, the places for its nodes, and how many have been made,
+// which may be more than there are places: the first pass has none, and only counts.
 #[derive(Drop)]
 pub struct Reader<'a> {
     cursor: Cursor<'a>,

@@ -1,5 +1,6 @@
 use crate::read_formula;
 use kripke::node::Node;
+use kripke::operator::Operator;
 use kripke::refusal::Cause::{self, ManyNodes, QuestionNumber, TextLimits, TooDeep, Unexpected};
 use kripke::refusal::{Layer, Refusal};
 use std::alloc::{AllocError, Global};
@@ -149,24 +150,20 @@ fn long_texts(rt: &impl Abort, heap: Global) -> Result<(), Fail> {
     )
 }
 
-fn node(code: u8, a: u16, b: u16) -> Node {
-    Node { code, a, b }
-}
-
 fn nodes(rt: &impl Abort) -> Result<(), Fail> {
     let mut places = [Node::default(); 6];
-    places[5] = node(9, 9, 9);
+    places[5] = Node::new(Operator::EG, 9, 9);
     assert!(rt;
         read_formula(b"AG (q0|EF q2)", 3, &mut places)? == 5,
         "nodes"
     );
     let wanted = [
-        node(1, 0, 0),
-        node(1, 2, 0),
-        node(7, 1, 0),
-        node(4, 0, 2),
-        node(10, 3, 0),
-        node(9, 9, 9),
+        Node::new(Operator::Question, 0, 0),
+        Node::new(Operator::Question, 2, 0),
+        Node::new(Operator::EF, 1, 0),
+        Node::new(Operator::Or, 0, 2),
+        Node::new(Operator::AG, 3, 0),
+        Node::new(Operator::EG, 9, 9),
     ];
     for (i, (place, node)) in places.iter().zip(&wanted).enumerate() {
         assert!(rt; place == node, "nodes {i}");

@@ -5,7 +5,7 @@ ghost use Rattle.reader.specs.Tokens.{lex, numeral, operator, single};
 use kripke::operator::Operator;
 use kripke::quantifier::Quantifier;
 
-// The operators of one argument.
+// The operators of one argument: with all operators here, a head of one argument could name one of two.
 #[derive(Clone, Copy, PartialEq, Eq)]
 pub enum Unary {
     Not,

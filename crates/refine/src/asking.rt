@@ -50,7 +50,7 @@ impl Pair {
         row.next.iter().any(|v| class[low + *v] == c)
     }
 
-    // Which states say yes. Only the states are asked, and most pairs have far fewer than the array has places.
+    // Which states say yes. Only the states are asked: `array::from_fn` would ask at each of its places, and most pairs have far fewer states.
     fn ask<F: Fn(usize) -> bool + Drop>(&self, question: F) -> [bool; 512]
         requires { (i : ℕ) → i < total (first_of self.now) (second_of self.now) → F.pre question i }
         ensures { (i : ℕ) → i < total (first_of self.now) (second_of self.now) → F.post question i (slice_index_or result i false) }

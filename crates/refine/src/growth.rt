@@ -6,6 +6,7 @@ use crate::nodes::Nodes;
 use kripke::node::Node;
 use kripke::operator::Operator;
 
+// How much room a call takes differs, so each says it; the type says what is reserved.
 impl Nodes {
     // Adds the test and its negation; the number of the test.
     fn begin(&mut self, test: Node) -> u16

@@ -30,7 +30,7 @@ fn print_state<M: Model>(rt: &(impl Print), model: &M, s: usize) -> io::Result<(
 }
 
 // The kind, the number of states and the initial state, and then a line a state.
-// The program `panel` lists a model in the same words: a library for both, with a contract on the text, would be longer than these lines.
+// The program `panel` lists a model in the same words: a library for both would be longer than these lines.
 fn print_model<M: Model>(rt: &(impl Print), kind: Kind, model: &M) -> io::Result<()> {
     let states = model.states();
     let initial = model.initial();

@@ -50,7 +50,7 @@ impl<L: Coded> StoredModel<L> {
         Ok(StoredModel { rows, initial: 0 })
     }
 
-    // Makes this the model that the image describes, or tells its first breach.
+    // Makes this the model that the image describes, or tells its first breach. `load` adds what holds of every image.
     fn take(&mut self, heap: Global, image: &[u8], slot: Slot) -> Result<(), Error>
         ensures { JudgedInMemory (Breach L.Coded.coding image.now) (slot_layer slot) (λ _. Describes L.Coded.coding image.now (meaning_of L.Label.answers self.new)) (self.new ≡ self.old) result }
     {
