@@ -1,7 +1,7 @@
 ghost use Rattle.std.specs.Prelude.{◌≡◌, ℕ, ◌<◌, ◌≤◌, Bool, false, List, length, slice_index_or};
 ghost use Rattle.kripke.specs.Telling.{Telling};
 
-// The most questions that a kind has.
+// A kind has no more questions.
 pub const MOST_QUESTIONS: usize = 32;
 
 // What shows in a state: the answers to the yes-or-no questions of a kind, numbered from 0.

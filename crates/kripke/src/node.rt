@@ -3,7 +3,7 @@ ghost use Rattle.std.specs.Prelude.{◌≡◌, MatchBool};
 
 use crate::operator::Operator;
 
-// The most nodes of a table, as many as the formula of a comparison can have.
+// A table has no more nodes than a comparison's formula can have.
 pub const MOST_NODES: usize = 2045;
 
 // One node of a formula's table: an operator's code and its two numbers, which name a question or earlier nodes.

@@ -16,7 +16,6 @@ pub struct UnknownKind(pub u8);
 
 impl Kind {
     // The kind that an image's first byte names; signal words where it names none, since they refuse such an image.
-    // Callers match on it: no closure is generic in the label type, and a trait of what to do would be longer than the match.
     pub fn of_image(image: &[u8]) -> Kind
         ensures { result ≡ named image.now }
     {

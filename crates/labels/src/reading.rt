@@ -87,7 +87,6 @@ impl Label for Reading {
         }
     }
 
-    // The bands tell it, and need no question asked: the limits rise.
     fn telling(&self, other: &Reading) -> Option<usize> {
         let (band, other) = (self.band(), other.band());
         if band == other {

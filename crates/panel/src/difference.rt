@@ -75,6 +75,7 @@ fn of_kind<L: Coded>(heap: Global, old: &[u8], new: &[u8]) -> Result<String, Fai
 
 // Compares two images; the first one's kind is asked of both.
 pub(crate) fn compare(heap: Global, old: &[u8], new: &[u8]) -> Result<String, Failure> {
+    // A match at each caller: no closure is generic in the label type, and a trait of what to do would be longer.
     match Kind::of_image(old) {
         Kind::SignalWords => of_kind::<SignalWord>(heap, old, new),
         Kind::Readings => of_kind::<Reading>(heap, old, new),

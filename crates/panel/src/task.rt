@@ -63,6 +63,7 @@ fn on_labels<L: Coded>(heap: Global, image: &[u8], task: Task) -> Result<String,
 }
 
 pub(crate) fn on_image(heap: Global, image: &[u8], task: Task) -> Result<String, Failure> {
+    // A match at each caller: no closure is generic in the label type, and a trait of what to do would be longer.
     match Kind::of_image(image) {
         Kind::SignalWords => on_labels::<SignalWord>(heap, image, task),
         Kind::Readings => on_labels::<Reading>(heap, image, task),

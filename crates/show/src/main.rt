@@ -53,6 +53,7 @@ fn show<L: Coded>(rt: &HostRuntime, image: &[u8]) -> io::Result<()> {
 fn main(rt: HostRuntime) -> io::Result<()> {
     let mut image = Vec::new(rt.alloc());
     rt.stdin().read_to_end(&mut image)?;
+    // A match at each caller: no closure is generic in the label type, and a trait of what to do would be longer.
     match Kind::of_image(image.as_slice()) {
         Kind::SignalWords => show::<SignalWord>(&rt, image.as_slice()),
         Kind::Readings => show::<Reading>(&rt, image.as_slice()),
