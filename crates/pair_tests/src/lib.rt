@@ -41,6 +41,32 @@ mod tests {
         input
     }
 
+    // How many bytes the image of a chain has, and where its links begin.
+    const CHAIN: usize = 8 + 8 * 256 + 4 * 256;
+
+    const LINKS: usize = 8 + 8 * 256;
+
+    // The image of 256 states of signal words: each leads to the next, and the last, which alone may be lit, to itself.
+    fn chain(last: [u8; 4]) -> [u8; CHAIN] {
+        let mut image = [0; CHAIN];
+        image[..8].copy_from_slice(&[SIGNAL_WORDS, 0, 0, 1, 0, 1, 0, 0]);
+        for s in 0..256 {
+            let next = if s < 255 { s + 1 } else { s };
+            image[8 + 8 * s + 4..8 + 8 * s + 6].copy_from_slice(&(s as u16 + 1).to_le_bytes());
+            image[LINKS + 4 * s..LINKS + 4 * s + 2].copy_from_slice(&(next as u16).to_le_bytes());
+        }
+        image[8 + 8 * 255..8 + 8 * 255 + 4].copy_from_slice(&last);
+        image
+    }
+
+    // Two chains, one after the other.
+    fn chains(first: [u8; 4], second: [u8; 4]) -> [u8; 2 * CHAIN] {
+        let mut input = [0; 2 * CHAIN];
+        input[..CHAIN].copy_from_slice(&chain(first));
+        input[CHAIN..].copy_from_slice(&chain(second));
+        input
+    }
+
     // Each input is told as the text beside it.
     fn told(rt: &impl Abort, heap: Global, cases: &[(&[u8], &str)]) -> Result<(), Fail> {
         for (input, expected) in cases {
@@ -99,5 +125,15 @@ mod tests {
             (&pair(fault, no_reading), "refused 4 2 8\n"),
         ];
         told(&rt, rt.alloc(), &cases)
+    }
+    // The most rounds that two models of 256 states need: they part at the last of 255 steps, or agree there.
+    #[test]
+    fn longest(rt: HostRuntime) -> Result<(), Fail> {
+        let text = compare_images(rt.alloc(), &chains(LIT, DARK))?;
+        let lines = text.iter().filter(|byte| **byte == b'\n').count();
+        assert!(&rt; text.starts_with(b"differ 255 513\n0 1 0 0\n") && lines == 514);
+        let text = compare_images(rt.alloc(), &chains(LIT, LIT))?;
+        assert!(&rt; text.as_slice() == "alike 255\n".as_bytes());
+        Ok(())
     }
 }
