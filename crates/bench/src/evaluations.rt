@@ -16,26 +16,46 @@ use std::time::Instant;
 // The best of so many times.
 const TIMES: u32 = 50;
 
-// The least time of an evaluation, in nanoseconds, taken over several at once.
-fn least_time<M: Model>(rt: &HostRuntime, model: &M, nodes: &[Node]) -> io::Result<u128> {
+// The least time of an evaluation, in nanoseconds, and how many states were marked: in the last row, and in all.
+#[derive(Clone, Copy)]
+struct Measured {
+    least: u128,
+    root: u32,
+    all: u32,
+}
+
+// How many bits of the words are set.
+fn ones(words: &[u64]) -> u32 {
+    let mut sum = 0u32;
+    for word in words {
+        sum = sum.saturating_add(word.count_ones());
+    }
+    sum
+}
+
+// Measures an evaluation, several at once where it is short.
+fn measure<M: Model>(rt: &HostRuntime, model: &M, nodes: &[Node]) -> io::Result<Measured> {
     let mut words = vec![in rt.alloc(); 0u64; nodes.len().saturating_mul(4)]?;
     let at_once = if nodes.len() > 9 { 1u32 } else { 1000 };
     let mut least = u128::MAX;
+    let mut root = 0;
     for _ in 0..TIMES {
         let start = Instant::now(rt)?;
         for _ in 0..at_once {
-            if evaluate(model, nodes, words.as_mut_slice()).is_err() {
-                return Err(io::Error::from(io::ErrorKind::InvalidInput));
+            match evaluate(model, nodes, words.as_mut_slice()) {
+                Ok(evaluation) => root = evaluation.count,
+                Err(_) => return Err(io::Error::from(io::ErrorKind::InvalidInput)),
             }
         }
         least = least.min(start.elapsed(rt)?.as_nanos() / (at_once as u128));
     }
-    Ok(least)
+    let all = ones(words.as_slice());
+    Ok(Measured { least, root, all })
 }
 
 fn print_time<M: Model>(rt: &HostRuntime, name: &str, model: &M, nodes: &[Node]) -> io::Result<()> {
-    let least = least_time(rt, model, nodes)?;
-    println!(rt; "  {name}: {least} ns")
+    let Measured { least, root, all } = measure(rt, model, nodes)?;
+    println!(rt; "  {name}: {least} ns, {root} at the root, {all} in all rows")
 }
 
 // Question 0, true, its negation, and a last node.

@@ -6,6 +6,14 @@ use std::time::Instant;
 
 const TIMES: u32 = 20;
 
+// The first line of a report: the verdict and the rounds.
+fn first_line(text: &[u8]) -> &str {
+    match str::from_utf8(text) {
+        Ok(text) => text.lines().next().unwrap_or(""),
+        Err(_) => "",
+    }
+}
+
 fn print_time(
     rt: &HostRuntime,
     name: &str,
@@ -17,12 +25,14 @@ fn print_time(
     let mut input = image(heap, shape, first)?;
     input.extend_from_slice(image(heap, shape, second)?.as_slice())?;
     let mut least = u128::MAX;
+    let mut text = Vec::new(heap);
     for _ in 0..TIMES {
         let start = Instant::now(rt)?;
-        compare_images(heap, input.as_slice())?;
+        text = compare_images(heap, input.as_slice())?;
         least = least.min(start.elapsed(rt)?.as_micros());
     }
-    println!(rt; "  {name}: {least} us")
+    let verdict = first_line(text.as_slice());
+    println!(rt; "  {name}: {least} us, {verdict}")
 }
 
 pub(crate) fn report(rt: &HostRuntime) -> io::Result<()> {
