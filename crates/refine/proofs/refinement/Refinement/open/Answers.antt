@@ -8,6 +8,8 @@ use Rattle.refine.specs.declared.partition.Partition.{Partition}
 use Rattle.refine.proofs.Rowed.{table_lawful}
 use Rattle.refine.proofs.Begins.{test_boolean}
 use Rattle.refine.proofs.Staging.{exact_told, opening_numbered}
+use Rattle.kripke.proofs.Unions.{both_size, both_closed}
+use Rattle.refine.proofs.Rounding.{open_tried}
 use Rattle.refine.proofs.refinement.Refinement.open.Goals as goal
 
 pub invariant_of-result : goal.invariant_of-result
@@ -29,6 +31,8 @@ invariant_of-result g c =
       told = exact_told (both a b) p (ask.exact (one.exact (test (both a b)) (test_boolean (both a b))));
       shallow = ask.shallow 0 one.shallow;
       numbered = opening_numbered q a b (table_lawful f) law c.states.result o p c.states.ensures.value one ask;
+      low = λ s h. o.low s (omega (arith, h, ask.keeps.states));
+      tried = open_tried (both a b) p.states o.class p.class one.class (λ s h. (both_closed a b (table_lawful f).closed law.closed).onward s (omega (arith, h, ask.keeps.states, one.states_is, c.states.ensures.value, both_size a b)));
       last = refl;
       pace = omega (arith, p.spare);
     }
