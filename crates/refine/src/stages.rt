@@ -21,7 +21,7 @@ impl Refinement {
     {
         let first = read(heap, first)?;
         let second = read(heap, second)?;
-        let pair = Pair { first, second };
+        let pair = Pair::new(heap, first, second)?;
         let mut parts = Partition::whole(heap, pair.states() as u16, pair.first.questions)?;
         let before = parts.class;
         parts.ask_all(&pair);
