@@ -8,6 +8,7 @@ pub mod Step
 pub mod Part
 pub mod Scan
 pub mod Begins
+pub mod Turned
 pub mod Rounding
 pub mod Staging
 pub mod Truth

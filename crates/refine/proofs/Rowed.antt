@@ -1,20 +1,17 @@
 -- A state read out of a table's rows, and a numbered state of both structures.
-use Rattle.std.proofs.Common.{◌≡◌, ℕ, ◌+◌, ◌-◌, ◌<◌, ◌≤◌, eqb, List, [], ◌∷◌, map, length, get_or, vec_items, sym, refl, ap, ◌∙◌, subst, ⊎_elim, zero-add, arith}
-use Rattle.std.specs.List.{list_any}
+use Rattle.std.proofs.Common.{◌≡◌, ℕ, ◌+◌, ◌-◌, ◌<◌, ◌≤◌, List, [], ◌∷◌, map, length, get_or, vec_items, sym, refl, ap, ◌∙◌, subst, ⊎_elim, zero-add, arith}
 use Rattle.std.proofs.lemmas.Bool.{cases_lt}
 use Rattle.std.proofs.lemmas.List.{get_or-map, length-map}
 use Rattle.refine.specs.Tables.{structure_of}
 use Rattle.refine.specs.declared.table.Table.{Table}
 use Rattle.kripke.specs.Structure.{Kripke, State, Closed, Lawful, Member, size, state, successors}
 use Rattle.kripke.specs.Rounds.{total}
-use Rattle.kripke.specs.Tests.{some}
 use Rattle.kripke.specs.Union.{both, moved}
 use Rattle.kripke.proofs.Unions.{both_size, both_closed, both_first, both_second}
 use Rattle.refine.specs.Rows.{state_of, structure}
-use Rattle.refine.specs.Tests.{hits}
 use Rattle.refine.specs.Pairs.{first_of, second_of, both_of}
 use Rattle.refine.specs.declared.pair.Pair.{Pair}
-use Rattle.refine.proofs.Somes.{some_any, some-map, member_at}
+use Rattle.refine.proofs.Somes.{member_at}
 use Rattle.refine.specs.declared.row.Row.{Row}
 
 pub row_state_lem : (start : ℕ) (rows : List Row) (s : ℕ) (r : Row) → s < length rows → r ≡ get_or rows s r → state (structure start rows) s ≡ state_of r
@@ -86,16 +83,13 @@ module _ (p : Pair) (i low : ℕ) (r : Row) (l : i < total (first_of p) (second_
       sym (ap (λ (x : State). length x.answers) e)
       ∙ long_answers p.first.questions (first_of p) (second_of p) (table_lawful p.first) (subst (λ (n : ℕ). Lawful n (second_of p)) p.level (table_lawful p.second)) i l
 
-  -- Its successors, numbered on, are states of the pair.
-  pub row_inside : (k d : ℕ) → k < length (vec_items r.next) → low + get_or (vec_items r.next) k d < 512
-  row_inside k d h =
-      let f : ℕ → ℕ = λ t. low + t in
-      let m : Member (get_or (map f (vec_items r.next)) k 0) (successors (both_of p) i) =
-      subst (λ (s : State). Member (get_or (map f (vec_items r.next)) k 0) s.next) (sym e) (member_at (map f (vec_items r.next)) k (omega (arith, h, length-map (vec_items r.next) f))) in
-      omega (arith, (pair_closed p).inside i _ (omega (arith, l, pair_size p)) m, get_or-map f (vec_items r.next) k d 0 h, pair_size p, pair_total p, p.first.few, p.second.few)
-
-  pub row_hits : (class : List ℕ) (c : ℕ) → list_any (λ v. eqb (get_or class (low + v) 0) c) (vec_items r.next) ≡ hits (both_of p) class c i
-  row_hits class c =
-      sym (some_any (λ v. eqb (get_or class (low + v) 0) c) (vec_items r.next))
-      ∙ sym (some-map (λ v. eqb (get_or class v 0) c) (λ v. low + v) (vec_items r.next))
-      ∙ sym (ap (λ (x : State). some (λ v. eqb (get_or class v 0) c) x.next) e)
+-- The successors of a row, numbered on, are states of both structures.
+pub row_inside : (a b : Table) (i low : ℕ) (r : Row) → i < total (structure_of a) (structure_of b) → state (both (structure_of a) (structure_of b)) i ≡ moved low (state_of r)
+    → (k : ℕ) → k < length (vec_items r.next) → low + get_or (vec_items r.next) k 0 < total (structure_of a) (structure_of b)
+row_inside a b i low r l e k h =
+    let f : ℕ → ℕ = λ t. low + t in
+    let u : Kripke = both (structure_of a) (structure_of b) in
+    let m : Member (get_or (map f (vec_items r.next)) k 0) (successors u i) =
+    subst (λ (s : State). Member (get_or (map f (vec_items r.next)) k 0) s.next) (sym e) (member_at (map f (vec_items r.next)) k (omega (arith, h, length-map (vec_items r.next) f))) in
+    let size_is : size u ≡ total (structure_of a) (structure_of b) = both_size (structure_of a) (structure_of b) in
+    omega (arith, (both_closed (structure_of a) (structure_of b) (table_lawful a).closed (table_lawful b).closed).inside i _ (omega (arith, l, size_is)) m, get_or-map f (vec_items r.next) k 0 0 h, size_is)

@@ -44,6 +44,10 @@ pub record Refining (u : Kripke) (p q : Partition) (i : ℕ) : Type 0 where
   pub exact : Exact (test u) p → Exact (test u) q
   pub shallow : (d : ℕ) → Shallow d p → Shallow (suc d) q
 
+-- States of one class agree on whether they have a successor in a class of the table before.
+abbrev pub Tried : Kripke → ℕ → List ℕ → List ℕ → Type 0
+Tried u n before class = (c s t : ℕ) → s < n → t < n → Alike class s t → hits u before c s ≡ hits u before c t
+
 -- One round, of structures a and b.
 pub record Rounded (a b u : Kripke) (p q : Partition) : Type 0 where
   pub keeps : Keeps p q

@@ -1,13 +1,23 @@
-ghost use Rattle.std.specs.Prelude.{◌≡◌, ℕ, ◌<◌, ◌≤◌, false, slice_index_or};
+ghost use Rattle.std.specs.Prelude.{◌≡◌, ℕ, ◌<◌, ◌≤◌, ◌||◌, false, length, slice_index, slice_index_or};
 ghost use Rattle.kripke.specs.Rounds.{total};
-ghost use Rattle.kripke.specs.Structure.{answer, state};
-ghost use Rattle.kripke.specs.Union.{moved};
+ghost use Rattle.kripke.specs.Structure.{answer};
 ghost use Rattle.refine.specs.Pairs.{both_of, first_of, second_of};
-ghost use Rattle.refine.specs.Rows.{state_of};
+ghost use Rattle.refine.specs.Sources.{has};
+ghost use Rattle.refine.specs.Steps.{at};
 ghost use Rattle.refine.specs.Tests.{hits};
 
 use crate::pair::Pair;
-use crate::row::Row;
+use crate::sources::row;
+
+// Says yes at each of the states.
+fn mark(row: &mut [bool; 512], states: &[usize])
+    requires { (i : ℕ) → i < length states.now → slice_index states.now i < 512 }
+    ensures { (x : ℕ) → x < 512 → at row.new x ≡ (has x states.now || at row.old x) }
+{
+    for s in states {
+        row[*s] = true;
+    }
+}
 
 impl Pair {
     // How many states there are in all.
@@ -18,36 +28,14 @@ impl Pair {
         self.first.rows.len() + self.second.rows.len()
     }
 
-    // The row of state i, and the number of the first state of its structure.
-    fn row(&self, i: usize) -> (&Row, usize)
-        requires { i < total (first_of self.now) (second_of self.now) }
-        ensures { state (both_of self.now) i ≡ moved result.1 (state_of result.0.now) }
-    {
-        let n = self.first.rows.len();
-        if i < n {
-            (&self.first.rows[i], 0)
-        } else {
-            (&self.second.rows[i - n], n)
-        }
-    }
-
     // The answer of state i to question q.
     fn answer(&self, i: usize, q: usize) -> bool
         requires state { i < total (first_of self.now) (second_of self.now) }
         requires question { q < self.now.first.questions }
         ensures { result ≡ answer (both_of self.now) i q }
     {
-        let (row, _) = self.row(i);
+        let (row, _) = row(&self.first, &self.second, i);
         row.answers[q]
-    }
-
-    // Has state i a successor in class c?
-    fn leads(&self, i: usize, class: &[u16; 512], c: u16) -> bool
-        requires { i < total (first_of self.now) (second_of self.now) }
-        ensures { result ≡ hits (both_of self.now) class.now c i }
-    {
-        let (row, low) = self.row(i);
-        row.next.iter().any(|v| class[low + *v] == c)
     }
 
     // Which states say yes. Only the states are asked: `array::from_fn` would ask at each of its places, and most pairs have far fewer states.
@@ -76,6 +64,12 @@ impl Pair {
         ensures { (i : ℕ) → i < total (first_of self.now) (second_of self.now)
             → slice_index_or result i false ≡ hits (both_of self.now) class.now c i }
     {
-        self.ask(|i| self.leads(i, class, c))
+        let mut row = [false; 512];
+        for (t, sources) in self.sources.iter().enumerate() {
+            if class[t] == c {
+                mark(&mut row, &sources.list);
+            }
+        }
+        row
     }
 }

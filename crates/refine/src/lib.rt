@@ -11,6 +11,7 @@ mod reading;
 pub mod refinement;
 mod rounds;
 pub mod row;
+pub mod sources;
 mod split;
 pub mod stages;
 pub mod table;

@@ -1,7 +1,8 @@
 ghost use Rattle.std.specs.Prelude.{◌≡◌, suc, ◌≤◌, if◌then◌else◌};
-ghost use Rattle.kripke.specs.Classes.{Numbered};
+ghost use Rattle.kripke.specs.Classes.{Low, Numbered};
 ghost use Rattle.kripke.specs.Rounds.{total};
 ghost use Rattle.refine.specs.Pairs.{both_of, first_of, second_of};
+ghost use Rattle.refine.specs.Rounding.{Tried};
 ghost use Rattle.refine.specs.Stages.{Told, rested};
 ghost use Rattle.refine.specs.Steps.{Shallow};
 
@@ -13,6 +14,8 @@ use crate::partition::Partition;
 pub struct Refinement {
     pub pair: Pair,
     pub parts: Partition,
+    // The class of each state before the last round, or before the labels were looked at: all states were in one class then.
+    pub before: [u16; 512],
     pub rounds: usize,
     // The last round split nothing.
     pub rests: bool,
@@ -20,6 +23,8 @@ pub struct Refinement {
     ghost asks: { parts.questions ≡ pair.first.questions },
     ghost told: { Told (both_of pair) parts },
     ghost shallow: { Shallow rounds parts },
+    ghost low: { Low parts.states before },
+    ghost tried: { Tried (both_of pair) parts.states before parts.class },
     ghost numbered: { Numbered (first_of pair) (second_of pair) rounds parts.class },
     ghost last: { rests ≡ rested (first_of pair) (second_of pair) rounds },
     ghost pace: { (if rests then rounds else suc rounds) ≤ parts.count },

@@ -1,8 +1,10 @@
-ghost use Rattle.std.specs.Prelude.{◌≡◌, ◌≤◌, T, length, IfOk, ◌==◌};
+ghost use Rattle.std.specs.Prelude.{◌≡◌, ℕ, ◌<◌, ◌≤◌, ◌↔◌, T, false, length, slice_index, IfOk, ◌==◌};
+ghost use Rattle.kripke.specs.Classes.{Low};
 ghost use Rattle.kripke.specs.Rounds.{total};
 ghost use Rattle.refine.specs.Growth.{next_node};
 ghost use Rattle.refine.specs.Pairs.{both_of, first_of, second_of};
-ghost use Rattle.refine.specs.Rounding.{Asking, Halved, One, Rounded};
+ghost use Rattle.refine.specs.Rounding.{Asking, Halved, One, Rounded, Tried};
+ghost use Rattle.refine.specs.Steps.{at};
 
 use crate::nodes::Nodes;
 use crate::pair::Pair;
@@ -10,6 +12,23 @@ use crate::partition::Partition;
 use kripke::node::Node;
 use kripke::operator::Operator;
 use std::alloc::{AllocError, Global};
+
+// Which classes have gained or lost a state between the two tables.
+fn changed(before: &[u16; 512], class: &[u16; 512], states: u16) -> [bool; 512]
+    requires few { states ≤ 512 }
+    requires before { Low states before.now }
+    requires class { Low states class.now }
+    ensures { (c : ℕ) → at result c ≡ false → (s : ℕ) → s < states → (slice_index class.now s ≡ c) ↔ (slice_index before.now s ≡ c) }
+{
+    let mut marks = [false; 512];
+    for s in 0..states as usize {
+        if class[s] != before[s] {
+            marks[class[s] as usize] = true;
+            marks[before[s] as usize] = true;
+        }
+    }
+    marks
+}
 
 impl Partition {
     // All states in one class, whose formula is `true`. Every node that a comparison can need is reserved.
@@ -56,17 +75,20 @@ impl Partition {
     }
 
     // One round: two states stay together when they were, and each successor of either has one of the other in its class before the round.
-    // Did it split nothing?
-    pub(crate) fn round(&mut self, pair: &Pair) -> bool
-        requires { self.old.states ≡ total (first_of pair.now) (second_of pair.now) }
+    // `former` is the table of the last round but one: a class that has not changed since has split what it can. Did it split nothing?
+    pub(crate) fn round(&mut self, pair: &Pair, former: &[u16; 512]) -> bool
+        requires long { self.old.states ≡ total (first_of pair.now) (second_of pair.now) }
+        requires low { Low self.old.states former.now }
+        requires tried { Tried (both_of pair.now) self.old.states former.now self.old.class }
         ensures rounded { Rounded (first_of pair.now) (second_of pair.now) (both_of pair.now) self.old self.new }
         ensures rests { result ≡ (self.new.count == self.old.count) }
     {
         let before = self.count;
         let class = self.class;
         let node = self.node;
+        let new = changed(former, &class, self.states);
         for c in 0..self.states {
-            if class[c as usize] == c {
+            if class[c as usize] == c && new[c as usize] {
                 self.split_by(pair, &class, c, node[c as usize]);
             }
         }

@@ -21,12 +21,14 @@ impl Refinement {
     {
         let first = read(heap, first)?;
         let second = read(heap, second)?;
-        let pair = Pair { first, second };
+        let pair = Pair::new(heap, first, second)?;
         let mut parts = Partition::whole(heap, pair.states() as u16, pair.first.questions)?;
+        let before = parts.class;
         parts.ask_all(&pair);
         Ok(Refinement {
             pair,
             parts,
+            before,
             rounds: 0,
             rests: false,
         })
@@ -38,7 +40,9 @@ impl Refinement {
         ensures pair { self.new.pair ≡ self.old.pair }
         ensures rounds { self.new.rounds ≡ suc self.old.rounds }
     {
-        self.rests = self.parts.round(&self.pair);
+        let class = self.parts.class;
+        self.rests = self.parts.round(&self.pair, &self.before);
+        self.before = class;
         self.rounds += 1;
     }
 

@@ -10,6 +10,7 @@ use Rattle.refine.specs.declared.partition.Partition.{Partition}
 use Rattle.refine.specs.declared.refinement.Refinement.{Refinement}
 use Rattle.refine.proofs.Rowed.{table_lawful}
 use Rattle.refine.proofs.Staging.{told_exact, exact_told, next_numbered, next_rests, next_pace}
+use Rattle.refine.proofs.Rounding.{now_tried}
 use Rattle.refine.proofs.refinement.Refinement.advance.Goals as goal
 
 pub overflow_add-self : goal.overflow_add-self
@@ -39,6 +40,8 @@ invariant_of-self c =
       told = exact_told (both a b) q (d.exact (told_exact (both a b) p r.told));
       shallow = subst (λ (n : ℕ). Shallow n q) k1 (d.shallow k r.shallow);
       numbered = subst (λ (n : ℕ). Numbered a b n q.class) k1 (next_numbered a b la lb k p q r.long r.numbered d);
+      low = λ s h. p.low s (omega (arith, h, d.keeps.states));
+      tried = now_tried a b q.states p.class q.class (d.keeps.states ∙ r.long) d.refined;
       last = b0 ∙ subst (λ (n : ℕ). eqb q.count p.count ≡ rested a b n) k1 (next_rests a b la lb k p q r.long r.numbered d);
       pace =
           subst (λ (z : Bool). cond z (k + 1) (suc (k + 1)) ≤ q.count) (sym b0)
