@@ -1,6 +1,7 @@
 -- One round: the classes split by each class before, and what that makes of states and their successors.
-use Rattle.std.proofs.Common.{◌≡◌, ℕ, suc, ◌+◌, ◌<◌, ◌≤◌, Bool, true, false, ◌||◌, T, ◌↔◌, eqb, List, [], ◌∷◌, length, get_or, vec_items, sym, refl, ap, ◌∙◌, subst, arith}
+use Rattle.std.proofs.Common.{◌≡◌, ℕ, suc, ◌+◌, ◌<◌, ◌≤◌, Bool, T, ◌↔◌, eqb, List, [], ◌∷◌, length, get_or, vec_items, sym, refl, ap, ◌∙◌, subst, arith}
 use native.Mathlib.Decide.{ℕ_discrete}
+use Rattle.std.proofs.Math.Bool.{or-false, or_self}
 use Rattle.std.proofs.lemmas.Bool.{eq-eqb, eqb-true}
 use Rattle.kripke.specs.Structure.{Kripke, Member, Closed, successors}
 use Rattle.kripke.specs.Tests.{some}
@@ -115,19 +116,11 @@ now_tried a b n class new long h c s t hs ht e =
     let m = (h s t (omega (arith, long, hs)) (omega (arith, long, ht))).0 e in
     agreed (both a b) class c s t m.1 m.2
 
-or_false : (b : Bool) → (b || false) ≡ b
-or_false true = refl
-or_false false = refl
-
-or_same : (b : Bool) → (b || b) ≡ b
-or_same true = refl
-or_same false = refl
-
 -- Where all states are in one class, each has a successor there.
 all_hit : (class : List ℕ) → ((s : ℕ) → get_or class s 0 ≡ 0) → (c : ℕ) (ts : List ℕ) → 1 ≤ length ts → some (λ v. eqb (get_or class v 0) c) ts ≡ eqb 0 c
 all_hit class zero c [] l = absurd (omega (arith, l))
-all_hit class zero c (t ∷ []) l = rw (zero t) (or_false (eqb 0 c))
-all_hit class zero c (t ∷ r ∷ ts) l = rw (zero t, all_hit class zero c (r ∷ ts) (omega arith)) (or_same (eqb 0 c))
+all_hit class zero c (t ∷ []) l = rw (zero t) (or-false (eqb 0 c))
+all_hit class zero c (t ∷ r ∷ ts) l = rw (zero t, all_hit class zero c (r ∷ ts) (omega arith)) (or_self (eqb 0 c))
 
 pub open_tried : (u : Kripke) (n : ℕ) (one class : List ℕ) → ((s : ℕ) → get_or one s 0 ≡ 0) → ((s : ℕ) → s < n → 1 ≤ length (successors u s)) → Tried u n one class
 open_tried u n one class zero onward c s t hs ht e = all_hit one zero c (successors u s) (onward s hs) ∙ sym (all_hit one zero c (successors u t) (onward t ht))

@@ -1,6 +1,7 @@
 -- Lists of the states that lead to each state, as they are written and read.
 use Rattle.std.proofs.Common.{◌≡◌, ℕ, suc, ◌+◌, ◌<◌, ◌≤◌, Bool, true, false, ◌&&◌, ◌||◌, T, eqb, ltb, ◌⊎◌, List, [], ◌∷◌, ◌++◌, map, take, length, get_or, set, sym, refl, ap, ◌∙◌, subst, inl, inr, ⊎_elim, arith}
 use native.Mathlib.Decide.{ℕ_discrete}
+use Rattle.std.proofs.Math.Bool.{or-false, or_comm, or_assoc}
 use Rattle.std.proofs.Math.Seq.{take-suc}
 use Rattle.std.proofs.lemmas.List.{map-set, map_push, length-map, length-set, get_or-map, get_or-set_same, get_or-set_other}
 use Rattle.std.proofs.lemmas.Bool.{eq-eqb, ne_eqb, eqb-true, ltb-true, lt-ltb, le-ltb, cases_lt}
@@ -13,23 +14,9 @@ use Rattle.kripke.proofs.Reflect.{some-T, or_T}
 use Rattle.refine.proofs.Somes.{member_at, T-yes, bools}
 use Rattle.refine.proofs.Orders.{and_T, T_and, lt_T}
 
-or_assoc : (a b c : Bool) → (a || (b || c)) ≡ ((a || b) || c)
-or_assoc true b c = refl
-or_assoc false b c = refl
-
-or_false : (a : Bool) → (a || false) ≡ a
-or_false true = refl
-or_false false = refl
-
-or_swap : (a b : Bool) → (a || b) ≡ (b || a)
-or_swap true true = refl
-or_swap true false = refl
-or_swap false true = refl
-or_swap false false = refl
-
 pub has_push : (x : ℕ) (l : List ℕ) (y : ℕ) → has x (l ++ y ∷ []) ≡ (has x l || eqb y x)
-has_push x [] y = or_false (eqb y x)
-has_push x (z ∷ l) y = ap (λ (b : Bool). eqb z x || b) (has_push x l y) ∙ or_assoc (eqb z x) (has x l) (eqb y x)
+has_push x [] y = or-false (eqb y x)
+has_push x (z ∷ l) y = ap (λ (b : Bool). eqb z x || b) (has_push x l y) ∙ sym (or_assoc (eqb z x) (has x l) (eqb y x))
 
 pub leading_at : (ws : List Sources) (t : ℕ) (d : Sources) → t < length ws → leading ws t ≡ listed (get_or ws t d)
 leading_at ws t d l = get_or-map listed ws t d [] l
@@ -49,7 +36,7 @@ module _ (vs ws : List Sources) (s low : ℕ) (next : List ℕ) (i : ℕ) (l : i
         ∙ ap (λ (m : List ℕ). has x m) (get_or-set_same (map listed ws) j (listed w) [] (omega (arith, length-map ws listed, inside)) ∙ pushed)
         ∙ has_push x (listed (get_or ws j d)) s
         ∙ ap (λ (m : List ℕ). has x m || eqb s x) (sym (leading_at ws j d inside) ∙ ap (λ (n : ℕ). leading ws n) z)
-        ∙ or_swap (has x (leading ws t)) (eqb s x)
+        ∙ or_comm (has x (leading ws t)) (eqb s x)
         ∙ rw (eq-eqb j t z) (go (eqb s x))
     | no z ↦ ap (λ (m : List ℕ). has x m) (get_or-set_other (map listed ws) j t (listed w) [] (λ e. z (sym e))) ∙ rw (ne_eqb j t z) (nothing (eqb s x))
   ]
@@ -99,7 +86,7 @@ leads_more u vs ws s ts h e z t x l = e.has_too t x l' ∙ ap (λ (b : Bool). (e
 
     go : Dec (s ≡ x) → ((eqb s x && has t ts) || (ltb x s && has t (successors u x))) ≡ (ltb x (s + 1) && has t (successors u x))
     go (yes q) = rw (eq-eqb s x q, le-ltb x s (omega (arith, q)), lt-ltb x (s + 1) (omega (arith, q)))
-        (or_false (has t ts) ∙ ap (λ (m : List ℕ). has t m) z ∙ ap (λ (n : ℕ). has t (successors u n)) q)
+        (or-false (has t ts) ∙ ap (λ (m : List ℕ). has t m) z ∙ ap (λ (n : ℕ). has t (successors u n)) q)
     go (no d) = rw (ne_eqb s x d) (ap (λ (b : Bool). b && has t (successors u x)) (step (cases_lt x s)))
       where
         step : (x < s) ⊎ (s ≤ x) → ltb x s ≡ ltb x (s + 1)
