@@ -23,6 +23,13 @@ impl Kind {
         }
     }
 
+    pub fn questions(self) -> usize {
+        match self {
+            Kind::Words => 32,
+            Kind::Readings => 3,
+        }
+    }
+
     /// The answers of a label, if the four bytes code one.
     pub fn answers(self, label: [u8; 4]) -> Option<Vec<bool>> {
         match self {
@@ -54,9 +61,6 @@ pub struct Model {
 
 impl Model {
     pub fn questions(&self) -> usize {
-        match self.kind {
-            Kind::Words => 32,
-            Kind::Readings => 3,
-        }
+        self.kind.questions()
     }
 }

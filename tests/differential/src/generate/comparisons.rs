@@ -1,8 +1,8 @@
 //! Comparisons: two models and a list of requests.
 
-use super::{graphs, images, put_any_model, rulelists};
-use crate::generate::graphs::Graph;
-use crate::generate::images::Palette;
+use super::graphs::{self, Graph};
+use super::images::{self, Palette};
+use super::{put_any_model, rulelists};
 use crate::law::Request;
 use crate::model::Model;
 use crate::protocol::{put_model, put_requests, Payload};

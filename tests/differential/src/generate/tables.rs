@@ -1,7 +1,6 @@
 //! Node tables, in order and damaged.
 
 use super::texts;
-use crate::model::Kind;
 use crate::protocol::Given;
 use crate::rng::Rng;
 use crate::table::{shape, Node, Shape, MOST_NODES};
@@ -22,10 +21,7 @@ impl Asked {
     }
 
     pub fn of(given: &Given) -> Asked {
-        let count = match given.kind() {
-            Kind::Words => 32,
-            Kind::Readings => 3,
-        };
+        let count = given.kind().questions();
         let states = given.load(false).map_or(Vec::new(), |model| model.states);
         let telling = |&question: &usize| {
             states
@@ -95,12 +91,8 @@ fn damage(rng: &mut Rng, nodes: &mut [Node], questions: usize) {
         2 => node.a = short(rng.pick(&[number, number + 1, number.saturating_sub(1), 65535])),
         3 => node.b = short(rng.pick(&[number, number + 1, number.saturating_sub(1), 65535])),
         4 => {
-            *node = Node::new(
-                1,
-                rng.pick(&[questions, questions + 1, 31, 32, 255, 256])
-                    .min(65535),
-                0,
-            )
+            let asked = rng.pick(&[questions, questions + 1, 31, 32, 255, 256]);
+            *node = Node::new(1, asked.min(65535), 0);
         }
         5 => node.b = rng.pick(&[1, 256, 65535]),
         _ => *node = Node::new(0, rng.below(2), rng.below(2)),
