@@ -224,15 +224,18 @@ fn comparison(payload: Payload, given: &[&str], mut met: Met) -> Judged {
 
 type Parsed = (Model, Model, Vec<law::Request>);
 
+/// The models and requests of a comparison, or the refusal of a model; `None`
+/// also for two models of different label kinds.
 fn parse_comparison(mut payload: Payload) -> Option<Result<Parsed, Refusal>> {
     let first = payload.model()?;
     let second = payload.model()?;
     let requests = payload.requests()?;
-    if first.kind() != second.kind() {
-        return None;
-    }
     let load = || Ok((first.load(false)?, second.load(true)?));
-    Some(load().map(|(first, second)| (first, second, requests)))
+    match load() {
+        Err(refusal) => Some(Err(refusal)),
+        Ok((first, second)) if first.kind == second.kind => Some(Ok((first, second, requests))),
+        Ok(_) => None,
+    }
 }
 
 /// Goes over the lines of an answer to a list of requests.
