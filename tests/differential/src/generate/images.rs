@@ -275,12 +275,14 @@ fn damage(rng: &mut Rng, bytes: &mut Vec<u8>, states: usize, links: usize) {
         ),
         5 | 6 => change_length(rng, bytes),
         7 | 8 => {
-            let low = rng.below(250);
-            let wrong = [[low, low], [low + 1, low], [255, 0], [low, low + 1]];
-            let [one, other] = rng.pick(&wrong);
+            // Of the label of a reading two limits, the first not below the second.
             let at = state + rng.between(1, 2);
-            bytes[at] = one as u8;
-            bytes[at + 1] = other as u8;
+            match rng.below(4) {
+                0 => bytes[at] = bytes[at + 1],
+                1 => bytes[at + 1] = bytes[at],
+                2 => bytes.swap(at, at + 1),
+                _ => bytes[at] = rng.pick(&[254, 255]),
+            }
         }
         9 => set(bytes, state + 4, rng.pick(&[0, 1, links, links + 1, 65535])),
         10 => set(bytes, state + 6, rng.pick(&[1, 256, 65535])),
