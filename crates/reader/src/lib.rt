@@ -31,6 +31,3 @@ pub fn read_formula(text: &[u8], questions: usize, places: &mut [Node]) -> Resul
     passes::check_text(text, questions, places.len())?;
     passes::write_nodes(text, questions, places)
 }
-
-#[cfg(test)]
-mod tests;

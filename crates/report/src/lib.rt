@@ -4,6 +4,4 @@
 
 mod cursor;
 pub mod report;
-#[cfg(test)]
-mod tests;
 pub mod write;

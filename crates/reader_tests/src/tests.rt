@@ -1,8 +1,8 @@
-use crate::read_formula;
 use kripke::node::Node;
 use kripke::operator::Operator;
 use kripke::refusal::Cause::{self, ManyNodes, QuestionNumber, TextLimits, TooDeep, Unexpected};
 use kripke::refusal::{Layer, Refusal};
+use reader::read_formula;
 use std::alloc::{AllocError, Global};
 use std::process::Abort;
 use std::test::Fail;

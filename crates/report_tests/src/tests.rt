@@ -1,9 +1,7 @@
-// The texts of reports, in bytes of their own and in given ones.
-
-use crate::report::Report;
-use crate::write::{report_text, write_report};
 use kripke::node::Node;
 use kripke::operator::Operator;
+use report::report::Report;
+use report::write::{report_text, write_report};
 use std::process::Abort;
 use std::test::Fail;
 
