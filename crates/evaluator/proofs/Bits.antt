@@ -1,10 +1,12 @@
 -- The bits of a word: of two words joined, of a power of two, of the first bits set.
-use Rattle.std.proofs.Common.{◌≡◌, ℕ, zero, suc, ◌+◌, ◌-◌, ◌/◌, ◌%◌, ◌^◌, ◌<◌, ◌≤◌, Bool, true, false, not, ◌&&◌, ◌||◌, eqb, ltb, sym, refl, ap, ◌∙◌, ⊎_elim, mod-eq_of_lt, pow-suc, arith, pow_mono}
+use Rattle.std.proofs.Common.{◌≡◌, ℕ, zero, suc, ◌+◌, ◌-◌, ◌*◌, ◌/◌, ◌%◌, ◌^◌, ◌<◌, ◌≤◌, Bool, true, false, not, ◌&&◌, ◌||◌, eqb, ltb, sym, refl, ap, ◌∙◌, ⊎_elim, mod-eq_of_lt, pow-suc, arith, pow_mono}
 use mathlib.Core.Bool.{beq}
 use native.Mathlib.Nat.{div-eq_of_lt, mul-mod_left}
 use lib.Bits.{bit_and, bit_or, bit_xor, and_shr, and_mod, or_shr, or_mod, xor_shr, xor_mod, and_mask}
 use Rattle.std.proofs.lemmas.Nat.{pow-add, pow_pos, shl-shr, pow_below, mod_below}
 use Rattle.std.proofs.lemmas.Bool.{eq-eqb, ne_eqb, cases_eq, cases_lt, cases_order, lt-ltb, le-ltb}
+use Rattle.std.specs.Int.{bit_at, trailing_zeros, w64}
+use Rattle.std.proofs.lemmas.Nat.Bits.{bit_at-lt, bit_at-trailing_zeros, bit_at-zero, bit_at_cat_high, bit_at_not}
 use Rattle.evaluator.specs.Rows.{bit}
 
 -- A bitwise operation o on words is the test t on their bits.
@@ -74,3 +76,28 @@ low_bit m j = ⊎_elim
     let small : 2 ^ m - 1 < 2 ^ j = omega (arith, pow_mono b, pow_pos m) in
     ap (λ (x : ℕ). eqb (x % 2) 1) (div-eq_of_lt small) ∙ sym (le-ltb j m b))
     (cases_lt j m)
+
+-- The bits turned over.
+pub not_bit : (w j : ℕ) → w < 2 ^ 64 → j < 64 → bit (2 ^ 64 - 1 - w) j ≡ not (bit w j)
+not_bit w j small l = ap (λ (x : ℕ). eqb x 1) (bit_at_not w64 w j small l) ∙ turned (bit_at w j) (bit_at-lt w j)
+  where
+    turned : (x : ℕ) → x < 2 → eqb (1 - x) 1 ≡ not (eqb x 1)
+    turned zero h = refl
+    turned (suc zero) h = refl
+    turned (suc (suc x)) h = absurd (omega arith)
+
+pub zero_bit : (j : ℕ) → bit 0 j ≡ false
+zero_bit j = ap (λ (x : ℕ). eqb x 1) (bit_at-zero j)
+
+-- The highest bit set, and the lowest.
+pub high_bit : (w j : ℕ) → 2 ^ j ≤ w → w < 2 * 2 ^ j → bit w j ≡ true
+high_bit w j from below =
+    let rest : w - 2 ^ j < 2 ^ j = omega arith in
+    let cut : w ≡ 1 * 2 ^ j + (w - 2 ^ j) = omega arith in
+    ap (λ (x : ℕ). bit x j) cut ∙ ap (λ (x : ℕ). eqb x 1) (bit_at_cat_high 1 j (w - 2 ^ j) j rest (omega arith))
+    ∙ ap (λ (i : ℕ). bit 1 i) (let e : j - j ≡ 0 = omega arith in e)
+
+pub lowest_bit : (w : ℕ) → 0 < w → w < 2 ^ 64 → (trailing_zeros w64 w < 64) × (bit w (trailing_zeros w64 w) ≡ true)
+lowest_bit w some small =
+    let z = bit_at-trailing_zeros w64 w some small in
+    (z.0, eq-eqb (bit_at w (trailing_zeros w64 w)) 1 z.1)

@@ -1,5 +1,5 @@
 -- What the private functions promise one another, in terms of tests of states: the bits of one row.
-use Rattle.std.specs.Prelude.{◌≡◌, ℕ, zero, suc, ◌+◌, ◌*◌, ◌/◌, ◌%◌, ◌<◌, ◌≤◌, Bool, true, false, cond, not, List, length, nat_lt, slice_index, slice_index_or}
+use Rattle.std.specs.Prelude.{◌≡◌, ℕ, zero, suc, ◌+◌, ◌*◌, ◌/◌, ◌%◌, ◌<◌, ◌≤◌, Bool, true, false, cond, not, List, Option, Some, None, length, nat_lt, slice_index, slice_index_or}
 use Rattle.kripke.specs.Structure.{Kripke, size, successors}
 use Rattle.kripke.specs.Ctl.{Formula, truth, OnSome, OnEach, Until}
 use Rattle.kripke.specs.Nodes.{Operator, constant, asking, unary, binary, applied, formula, WellFormed}
@@ -33,6 +33,11 @@ Complements k q r = (s : ℕ) → s < 256 → r s ≡ not (beq (nat_lt s (size k
 pub record Collects (n : ℕ) (Answers : ℕ → Bool → Type 0) (q : ℕ → Bool) : Type 0 where
   pub here : (s : ℕ) → s < n → Answers s (q s)
   pub beyond : (s : ℕ) → n ≤ s → s < 256 → q s ≡ false
+
+-- A marked state is picked where there is one.
+abbrev pub Picks : (ℕ → Bool) → Option ℕ → Type 0
+Picks q (Some s) = (s < 256) × (q s ≡ true)
+Picks q None = (s : ℕ) → s < 256 → q s ≡ false
 
 -- How many of the numbers below n pass.
 unfoldable pub tally : (ℕ → Bool) → ℕ → ℕ
@@ -68,7 +73,7 @@ Still k e f q = (s : ℕ) → s < size k → f s ≡ true → steps e q (success
 pub record Sweeps (k : Kripke) (e : Quantifier) (f p q : ℕ → Bool) (changed : Bool) : Type 0 where
   pub above : (s : ℕ) → s < 256 → p s ≡ true → q s ≡ true
   pub sound : (g : ℕ → Bool) → Sound k e f g p → Sound k e f g q
-  pub trim : Trim k p → Trim k q
+  pub trim : Trim k f → Trim k p → Trim k q
   pub still : changed ≡ false → Still k e f q
   pub more : changed ≡ true → tally p 256 < tally q 256
 

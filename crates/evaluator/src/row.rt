@@ -1,6 +1,6 @@
-ghost use Rattle.std.specs.Prelude.{◌≡◌, ℕ, ◌+◌, ◌*◌, ◌<◌, ◌≤◌, ◌||◌, length, ◌==◌, nat_lt, slice_index};
+ghost use Rattle.std.specs.Prelude.{◌≡◌, ℕ, ◌+◌, ◌*◌, ◌<◌, ◌≤◌, ◌||◌, ◌&&◌, not, length, ◌==◌, nat_lt, slice_index};
 ghost use Rattle.evaluator.specs.Rows.{at, bit};
-ghost use Rattle.evaluator.specs.Marks.{marks, tally};
+ghost use Rattle.evaluator.specs.Marks.{Picks, marks, tally};
 
 use std::array;
 
@@ -23,6 +23,57 @@ pub(crate) fn mark(row: &mut Row, s: usize)
     ensures { (t : ℕ) → t < 256 → marks row.new t ≡ (t == s || marks row.old t) }
 {
     row[s / 64] |= 1 << (s % 64);
+}
+
+// Unmarks state s.
+#[tactic(auto, using(crate::proofs::Rows::unmarked_row))]
+pub(crate) fn unmark(row: &mut Row, s: usize)
+    requires { s < 256 }
+    ensures { (t : ℕ) → t < 256 → marks row.new t ≡ (marks row.old t && not (t == s)) }
+{
+    row[s / 64] &= !(1 << (s % 64));
+}
+
+// The order in which marked states are picked: the last one first, or the first one.
+#[derive(Clone, Copy)]
+pub(crate) enum Order {
+    Down,
+    Up,
+}
+
+// The last marked state.
+fn last_marked(row: &Row) -> Option<usize>
+    ensures { Picks (marks row.now) result }
+{
+    for q in (0..4usize).rev() {
+        if row[q] != 0 {
+            return Some(64 * q + row[q].ilog2() as usize);
+        }
+    }
+    None
+}
+
+// The first marked state.
+#[tactic(auto, using(crate::proofs::Rows::picked_low))]
+fn first_marked(row: &Row) -> Option<usize>
+    ensures { Picks (marks row.now) result }
+{
+    for q in 0..4usize {
+        if row[q] != 0 {
+            return Some(64 * q + row[q].trailing_zeros() as usize);
+        }
+    }
+    None
+}
+
+// The marked state that is next in an order.
+pub(crate) fn pick(row: &Row, order: Order) -> Option<usize>
+    ensures { Picks (marks row.now) result }
+{
+    match order {
+        Order::Down => last_marked(row),
+        Order::Up => first_marked(row),
+    }
 }
 
 // The word whose first m bits are set.
