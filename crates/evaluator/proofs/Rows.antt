@@ -1,14 +1,13 @@
 -- The marks of rows: a row written at one state, a whole row, a row read out of a table.
-use Rattle.std.proofs.Common.{◌≡◌, ℕ, zero, suc, ◌+◌, ◌-◌, ◌*◌, ◌/◌, ◌%◌, ◌^◌, ◌<◌, ◌≤◌, Bool, true, false, not, ◌&&◌, ◌||◌, eqb, ltb, List, [], Option, Some, None, length, get_or, set, sym, refl, ap, ◌∙◌, ⊎_elim, arith, drop, get_or-set_other, get_or-set_same, rules}
+use Rattle.std.proofs.Common.{◌≡◌, ℕ, zero, suc, ◌+◌, ◌-◌, ◌*◌, ◌/◌, ◌%◌, ◌^◌, ◌<◌, ◌≤◌, Bool, true, false, not, ◌&&◌, ◌||◌, eqb, ltb, List, [], length, get_or, set, sym, refl, ap, ◌∙◌, ⊎_elim, arith, drop, get_or-set_other, get_or-set_same, rules}
 use lib.Bits.{bit_and, bit_or, bit_xor}
-use Rattle.std.proofs.lemmas.Nat.{one_shl, pow_below}
-use Rattle.std.specs.Int.{trailing_zeros, w64}
+use Rattle.std.proofs.lemmas.Nat.{one_shl}
 use Rattle.std.proofs.lemmas.Bool.{eq-eqb, ne_eqb, cases_eq, cases_lt, lt-ltb, le-ltb}
 use Rattle.std.proofs.lemmas.List.{places}
 use Rattle.std.specs.Simd.{first_chunks}
 use Rattle.evaluator.specs.Rows.{bit}
-use Rattle.evaluator.specs.Marks.{Complements, Picks, Whole, marks}
-use Rattle.evaluator.proofs.Bits.{and_bit, high_bit, lowest_bit, not_bit, or_bit, power_bit, xor_bit, zero_bit}
+use Rattle.evaluator.specs.Marks.{Complements, Whole, marks}
+use Rattle.evaluator.proofs.Bits.{and_bit, or_bit, power_bit, xor_bit}
 use Rattle.kripke.specs.Structure.{Kripke}
 use mathlib.Core.Bool.{beq}
 
@@ -42,54 +41,6 @@ marked_row ws s four hs t ht =
     ∙ ap (λ (b : Bool). b || marks ws t) (sym (ne_eqb t s (λ same. ne (ap (λ (x : ℕ). x / 64) same)))))
     (cases_eq (t / 64) (s / 64))
 
-with_true : (b : Bool) → b ≡ (b && true)
-with_true true = refl
-with_true false = refl
-
--- The row after `row[s / 64] &= !(1 << (s % 64))`.
-pub unmarked_row : (ws : List ℕ) (s : ℕ) → length ws ≡ 4 → s < 256 → (t : ℕ) → t < 256
-    → marks (set ws (s / 64) (bit_and (get_or ws (s / 64) 0) (2 ^ 64 - 1 - 1 * 2 ^ (s % 64) % 2 ^ 64))) t ≡ (marks ws t && not (eqb t s))
-unmarked_row ws s four hs t ht =
-    let w : ℕ = get_or ws (s / 64) 0 in
-    let v : ℕ = bit_and w (2 ^ 64 - 1 - 2 ^ (s % 64)) in
-    ap (λ (x : ℕ). marks (set ws (s / 64) (bit_and w (2 ^ 64 - 1 - x))) t) (one_shl (s % 64) 64 (omega arith))
-    ∙ ⊎_elim
-    (λ (e : t / 64 ≡ s / 64).
-    ap (λ (x : ℕ). bit x (t % 64)) (ap (λ (x : ℕ). get_or (set ws (s / 64) v) x 0) e ∙ get_or-set_same ws (s / 64) v 0 (omega arith))
-    ∙ and_bit w (2 ^ 64 - 1 - 2 ^ (s % 64)) (t % 64)
-    ∙ ap (λ (b : Bool). bit w (t % 64) && b) (not_bit (2 ^ (s % 64)) (t % 64) (pow_below (s % 64) 64 (omega arith)) (omega arith) ∙ ap not (power_bit (t % 64) (s % 64) ∙ same_place s t e))
-    ∙ ap (λ (x : ℕ). bit (get_or ws x 0) (t % 64) && not (eqb t s)) (sym e))
-    (λ (ne : t / 64 ≡ s / 64 → ⊥).
-    ap (λ (x : ℕ). bit x (t % 64)) (get_or-set_other ws (s / 64) (t / 64) v 0 ne)
-    ∙ with_true (marks ws t) ∙ ap (λ (b : Bool). marks ws t && not b) (sym (ne_eqb t s (λ same. ne (ap (λ (x : ℕ). x / 64) same)))))
-    (cases_eq (t / 64) (s / 64))
-
--- The state of a bit that is set in one of the words.
-marked_at : (ws : List ℕ) (q j : ℕ) → j < 64 → bit (get_or ws q 0) j ≡ true → marks ws (64 * q + j) ≡ true
-marked_at ws q j l on =
-    let place : (64 * q + j) / 64 ≡ q = omega arith in
-    let here : (64 * q + j) % 64 ≡ j = omega arith in
-    ap (λ (x : ℕ). bit (get_or ws x 0) ((64 * q + j) % 64)) place ∙ ap (bit (get_or ws q 0)) here ∙ on
-
-pub picked_high : (ws : List ℕ) (q j : ℕ) → q < 4 → j < 64 → 2 ^ j ≤ get_or ws q 0 → get_or ws q 0 < 2 * 2 ^ j → Picks (marks ws) (Some (64 * q + j))
-picked_high ws q j h l from below = (omega arith, marked_at ws q j l (high_bit (get_or ws q 0) j from below))
-
-pub picked_low : (ws : List ℕ) (q : ℕ) → q < 4 → (get_or ws q 0 ≡ 0 → ⊥) → get_or ws q 0 < 2 ^ 64 → Picks (marks ws) (Some (64 * q + trailing_zeros w64 (get_or ws q 0)))
-picked_low ws q h some small =
-    let z = lowest_bit (get_or ws q 0) (omega arith) small in
-    (omega (arith, z.0), marked_at ws q (trailing_zeros w64 (get_or ws q 0)) z.0 z.1)
-
--- Where a word is 0.
-none_in : (ws : List ℕ) (q s : ℕ) → get_or ws q 0 ≡ 0 → s / 64 ≡ q → marks ws s ≡ false
-none_in ws q s none e = ap (λ (x : ℕ). bit x (s % 64)) (ap (λ (x : ℕ). get_or ws x 0) e ∙ none) ∙ zero_bit (s % 64)
-
-pub none_from : (ws : List ℕ) (i j : ℕ) → j + 1 ≡ i → ((s : ℕ) → 64 * i ≤ s → s < 256 → marks ws s ≡ false) → get_or ws j 0 ≡ 0
-    → (s : ℕ) → 64 * j ≤ s → s < 256 → marks ws s ≡ false
-none_from ws i j one from none s h l = ⊎_elim (λ e. none_in ws j s none e) (λ ne. from s (omega arith) l) (cases_eq (s / 64) j)
-
-pub none_below : (ws : List ℕ) (i : ℕ) → ((s : ℕ) → s < 64 * i → marks ws s ≡ false) → get_or ws i 0 ≡ 0 → (s : ℕ) → s < 64 * (i + 1) → marks ws s ≡ false
-none_below ws i below none s h = ⊎_elim (λ e. none_in ws i s none e) (λ ne. below s (omega arith)) (cases_eq (s / 64) i)
-
 -- Words that have the bits set that are below what is left of n.
 pub first_row : (ws : List ℕ) (n : ℕ) → ((q : ℕ) → q < 4 → (j : ℕ) → j < 64 → bit (get_or ws q 0) j ≡ ltb j (n - 64 * q)) → (s : ℕ) → s < 256 → marks ws s ≡ ltb s n
 first_row ws n is s l = is (s / 64) (omega arith) (s % 64) (omega arith) ∙ ⊎_elim
@@ -117,11 +68,6 @@ module _ (a b r : List ℕ) where
 
   pub either_marked : Combined bit_or → (s : ℕ) → s < 256 → marks r s ≡ (marks a s || marks b s)
   either_marked is s l = marked_as bit_or is s l ∙ or_bit (get_or a (s / 64) 0) (get_or b (s / 64) 0) (s % 64)
-
-  pub lacking_marked : ((q : ℕ) → get_or b q 0 < 2 ^ 64) → Combined (λ x y. bit_and x (2 ^ 64 - 1 - y)) → (s : ℕ) → s < 256 → marks r s ≡ (marks a s && not (marks b s))
-  lacking_marked small is s l =
-      marked_as (λ x y. bit_and x (2 ^ 64 - 1 - y)) is s l ∙ and_bit (get_or a (s / 64) 0) (2 ^ 64 - 1 - get_or b (s / 64) 0) (s % 64)
-      ∙ ap (λ (x : Bool). marks a s && x) (not_bit (get_or b (s / 64) 0) (s % 64) (small (s / 64)) (omega arith))
 
   pub complemented : (k : Kripke) → Whole k (marks a) → Combined bit_xor → Complements k (marks b) (marks r)
   complemented k whole is s l =

@@ -4,7 +4,7 @@ ghost use Rattle.kripke.specs.Ctl.{Always, Next, Until};
 ghost use Rattle.kripke.specs.Nodes.{operator, operators};
 ghost use Rattle.kripke.specs.Structure.{answer, or_first, size, successors};
 
-use crate::row::{Order, Row, combine, first, mark, marked, pick, unmark};
+use crate::row::{Order, Row, combine, first, mark, marked};
 use kripke::label::Label;
 use kripke::model::Model;
 use kripke::node::Node;
@@ -77,13 +77,18 @@ fn sweep<M: Model>(model: &M, quantifier: Quantifier, f: &Row, order: Order, row
     ensures { Sweeps (M.meaning model.now) quantifier (marks f.now) (marks row.old) (marks row.new) result }
 {
     let mut changed = false;
-    let mut left = [0; 4];
-    combine(f, row, |x, y| x & !y, &mut left);
-    while let Some(s) = pick(&left, order) {
-        unmark(&mut left, s);
-        if onward(model, quantifier, s, row) {
-            mark(row, s);
-            changed = true;
+    for i in 0..4usize {
+        let q = order.word(i);
+        // What is left to visit is taken bit by bit out of a word, which stays in a register, so that no time goes to other states.
+        let mut left = f[q] & !row[q];
+        while left != 0 {
+            let j = order.bit(left);
+            left &= !(1 << j);
+            let s = 64 * q + j;
+            if onward(model, quantifier, s, row) {
+                mark(row, s);
+                changed = true;
+            }
         }
     }
     changed

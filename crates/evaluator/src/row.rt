@@ -1,6 +1,6 @@
-ghost use Rattle.std.specs.Prelude.{◌≡◌, ℕ, ◌+◌, ◌*◌, ◌<◌, ◌≤◌, ◌||◌, ◌&&◌, not, length, ◌==◌, nat_lt, slice_index};
+ghost use Rattle.std.specs.Prelude.{◌≡◌, ℕ, ◌+◌, ◌*◌, ◌<◌, ◌≤◌, ◌||◌, ◌≢◌, true, length, ◌==◌, nat_lt, slice_index};
 ghost use Rattle.evaluator.specs.Rows.{at, bit};
-ghost use Rattle.evaluator.specs.Marks.{Picks, marks, tally};
+ghost use Rattle.evaluator.specs.Marks.{marks, place, tally};
 
 use std::array;
 
@@ -25,54 +25,35 @@ pub(crate) fn mark(row: &mut Row, s: usize)
     row[s / 64] |= 1 << (s % 64);
 }
 
-// Unmarks state s.
-#[tactic(auto, using(crate::proofs::Rows::unmarked_row))]
-pub(crate) fn unmark(row: &mut Row, s: usize)
-    requires { s < 256 }
-    ensures { (t : ℕ) → t < 256 → marks row.new t ≡ (marks row.old t && not (t == s)) }
-{
-    row[s / 64] &= !(1 << (s % 64));
-}
-
-// The order in which marked states are picked: the last one first, or the first one.
+// From the last state down, or from the first state up.
 #[derive(Clone, Copy)]
 pub(crate) enum Order {
     Down,
     Up,
 }
 
-// The last marked state.
-fn last_marked(row: &Row) -> Option<usize>
-    ensures { Picks (marks row.now) result }
-{
-    for q in (0..4usize).rev() {
-        if row[q] != 0 {
-            return Some(64 * q + row[q].ilog2() as usize);
+impl Order {
+    // The word of a row that comes at place i.
+    pub(crate) fn word(self, i: usize) -> usize
+        requires { i < 4 }
+        ensures { result ≡ place self i }
+    {
+        match self {
+            Order::Down => 3 - i,
+            Order::Up => i,
         }
     }
-    None
-}
 
-// The first marked state.
-#[tactic(auto, using(crate::proofs::Rows::picked_low))]
-fn first_marked(row: &Row) -> Option<usize>
-    ensures { Picks (marks row.now) result }
-{
-    for q in 0..4usize {
-        if row[q] != 0 {
-            return Some(64 * q + row[q].trailing_zeros() as usize);
+    // The set bit of a word that comes first.
+    #[tactic(auto, using(crate::proofs::Bits::high_bit, crate::proofs::Bits::lowest_bit))]
+    pub(crate) fn bit(self, word: u64) -> usize
+        requires { word ≢ 0 }
+        ensures { (result < 64) × (bit word result ≡ true) }
+    {
+        match self {
+            Order::Down => word.ilog2() as usize,
+            Order::Up => word.trailing_zeros() as usize,
         }
-    }
-    None
-}
-
-// The marked state that is next in an order.
-pub(crate) fn pick(row: &Row, order: Order) -> Option<usize>
-    ensures { Picks (marks row.now) result }
-{
-    match order {
-        Order::Down => last_marked(row),
-        Order::Up => first_marked(row),
     }
 }
 
