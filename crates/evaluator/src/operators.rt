@@ -73,6 +73,7 @@ fn next<M: Model>(model: &M, quantifier: Quantifier, f: &Row, row: &mut Row)
 }
 
 // Marks each unmarked state of f that steps to marked states, in an order. Tells whether it marked one.
+#[inline(always)]
 fn sweep<M: Model>(model: &M, quantifier: Quantifier, f: &Row, order: Order, row: &mut Row) -> bool
     ensures { Sweeps (M.meaning model.now) quantifier (marks f.now) (marks row.old) (marks row.new) result }
 {
@@ -95,13 +96,16 @@ fn sweep<M: Model>(model: &M, quantifier: Quantifier, f: &Row, order: Order, row
 }
 
 // E[f U g], or A[f U g]: sweeps from g on, down and up in turn, until one marks nothing.
+// It runs within `apply`, where the quantifier is known.
+#[inline(always)]
 fn until<M: Model>(model: &M, quantifier: Quantifier, f: &Row, g: &Row, row: &mut Row)
     ensures { Trim (M.meaning model.now) (marks f.now) → Trim (M.meaning model.now) (marks g.now) → Divides (M.meaning model.now) quantifier (Until (Marked (marks f.now)) (Marked (marks g.now))) (marks row.new) }
 {
     *row = *g;
-    while sweep(model, quantifier, f, Order::Down, row)
-        && sweep(model, quantifier, f, Order::Up, row)
-    {}
+    let mut order = Order::Down;
+    while sweep(model, quantifier, f, order, row) {
+        order = order.turned();
+    }
 }
 
 // EG f, or AG f: a state has it where not each path, or no path, comes to a state that lacks f.

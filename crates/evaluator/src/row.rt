@@ -33,6 +33,16 @@ pub(crate) enum Order {
 }
 
 impl Order {
+    // The other order.
+    pub(crate) fn turned(self) -> Order
+        ensures { result ≢ self }
+    {
+        match self {
+            Order::Down => Order::Up,
+            Order::Up => Order::Down,
+        }
+    }
+
     // The word of a row that comes at place i.
     pub(crate) fn word(self, i: usize) -> usize
         requires { i < 4 }

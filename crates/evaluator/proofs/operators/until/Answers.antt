@@ -4,25 +4,20 @@ use Rattle.evaluator.proofs.Tallies.{tally_le}
 use Rattle.evaluator.proofs.Sweeps.{sown, grew, reaped}
 use Rattle.evaluator.proofs.operators.until.Goals as goal
 
-pub loop-row-init : goal.loop-row-init
-loop-row-init g c = sown _ _ (g.met.M.Model.lawful c.args.model.now) _ _ _
+pub loop-quantifier-init : goal.loop-quantifier-init
+loop-quantifier-init g c = sown _ _ (g.met.M.Model.lawful c.args.model.now) _ _ _
 
-pub loop-row-preserved : goal.loop-row-preserved
-loop-row-preserved g c = grew _ _ _ _ _ _ _ (grew _ _ _ _ _ _ _ c.loop-row.invariant c.sweep.ensures) c.sweep-in-loop-row.ensures
+pub loop-quantifier-preserved : goal.loop-quantifier-preserved
+loop-quantifier-preserved g c = grew _ _ _ _ _ _ _ c.loop-quantifier.invariant c.sweep.ensures
 
-pub loop-row-smaller : goal.loop-row-smaller
-loop-row-smaller g c =
-    let down = c.sweep.ensures.more c.loop-row-test.true in
-    let up = c.sweep-in-loop-row.ensures.more c.if-sweep.true in
-    let top = tally_le (marks c.sweep-in-loop-row.new.row) 256 in
+pub loop-quantifier-smaller : goal.loop-quantifier-smaller
+loop-quantifier-smaller g c =
+    let up = c.sweep.ensures.more c.loop-quantifier-test.true in
+    let top = tally_le (marks c.sweep.new.row) 256 in
     omega arith
 
-pub returns-else-sweep : goal.returns-else-sweep
-returns-else-sweep g c =
-    let all = grew _ _ _ _ _ _ _ (grew _ _ _ _ _ _ _ c.loop-row.invariant c.sweep.ensures) c.sweep-in-loop-row.ensures in
-    reaped _ _ (g.met.M.Model.lawful c.args.model.now) _ _ _ _ all (c.sweep-in-loop-row.ensures.still c.if-sweep.false)
-
-pub returns-after-loop-row : goal.returns-after-loop-row
-returns-after-loop-row g c =
-    let all = grew _ _ _ _ _ _ _ c.loop-row.invariant c.sweep.ensures in
-    reaped _ _ (g.met.M.Model.lawful c.args.model.now) _ _ _ _ all (c.sweep.ensures.still c.loop-row-test.false)
+pub returns : goal.returns
+returns g c =
+    let all = grew _ _ _ _ _ _ _ c.loop-quantifier.invariant c.sweep.ensures in
+    let made = reaped _ _ (g.met.M.Model.lawful c.args.model.now) _ _ _ _ all (c.sweep.ensures.still c.loop-quantifier-test.false) in
+    search rules
