@@ -1,4 +1,4 @@
-use Rattle.std.proofs.Common.{◌≡◌, ℕ, sym, ◌∙◌, inr, arith, rules}
+use Rattle.std.proofs.Common.{sym, ◌∙◌, inr, rules}
 use Rattle.evaluator.specs.Marks.{marks}
 use Rattle.evaluator.proofs.Bits.{taken_less}
 use Rattle.evaluator.proofs.Orders.{before, but, ended, entered, less, small_state, this_state}
