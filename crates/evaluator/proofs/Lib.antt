@@ -4,6 +4,7 @@ pub mod Tallies
 pub mod Members
 pub mod Nexts
 pub mod Untils
+pub mod Orders
 pub mod Sweeps
 pub mod Turns
 pub mod Meanings

@@ -1,5 +1,5 @@
 -- What the private functions promise one another, in terms of tests of states: the bits of one row.
-use Rattle.std.specs.Prelude.{◌≡◌, ℕ, zero, suc, ◌+◌, ◌*◌, ◌/◌, ◌%◌, ◌<◌, ◌≤◌, Bool, true, false, cond, not, List, length, nat_lt, slice_index, slice_index_or}
+use Rattle.std.specs.Prelude.{◌≡◌, ℕ, zero, suc, ◌+◌, ◌-◌, ◌*◌, ◌/◌, ◌%◌, ◌<◌, ◌≤◌, Bool, true, false, cond, not, List, length, nat_lt, slice_index, slice_index_or}
 use Rattle.kripke.specs.Structure.{Kripke, size, successors}
 use Rattle.kripke.specs.Ctl.{Formula, truth, OnSome, OnEach, Until}
 use Rattle.kripke.specs.Nodes.{Operator, constant, asking, unary, binary, applied, formula, WellFormed}
@@ -8,6 +8,8 @@ use Rattle.kripke.specs.declared.node.Node.{Node}
 use Rattle.std.specs.Bool.{beq}
 use Rattle.std.specs.List.{list_all, list_any}
 use Rattle.evaluator.specs.Rows.{bit, at, Tells}
+use Rattle.evaluator.specs.declared.row.Order.{Order}
+use Rattle.evaluator.specs.declared.row.Order.TheVariants as order
 use Rattle.kripke.specs.declared.quantifier.Quantifier.{Quantifier}
 use Rattle.kripke.specs.declared.quantifier.Quantifier.TheVariants as quantifier
 
@@ -33,6 +35,11 @@ Complements k q r = (s : ℕ) → s < 256 → r s ≡ not (beq (nat_lt s (size k
 pub record Collects (n : ℕ) (Answers : ℕ → Bool → Type 0) (q : ℕ → Bool) : Type 0 where
   pub here : (s : ℕ) → s < n → Answers s (q s)
   pub beyond : (s : ℕ) → n ≤ s → s < 256 → q s ≡ false
+
+-- The place of one of the four words in an order, and the word at a place.
+abbrev pub place : Order → ℕ → ℕ
+place order.Down q = 3 - q
+place order.Up q = q
 
 -- How many of the numbers below n pass.
 unfoldable pub tally : (ℕ → Bool) → ℕ → ℕ
@@ -68,7 +75,7 @@ Still k e f q = (s : ℕ) → s < size k → f s ≡ true → steps e q (success
 pub record Sweeps (k : Kripke) (e : Quantifier) (f p q : ℕ → Bool) (changed : Bool) : Type 0 where
   pub above : (s : ℕ) → s < 256 → p s ≡ true → q s ≡ true
   pub sound : (g : ℕ → Bool) → Sound k e f g p → Sound k e f g q
-  pub trim : Trim k p → Trim k q
+  pub trim : Trim k f → Trim k p → Trim k q
   pub still : changed ≡ false → Still k e f q
   pub more : changed ≡ true → tally p 256 < tally q 256
 

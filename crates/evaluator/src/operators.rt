@@ -4,7 +4,7 @@ ghost use Rattle.kripke.specs.Ctl.{Always, Next, Until};
 ghost use Rattle.kripke.specs.Nodes.{operator, operators};
 ghost use Rattle.kripke.specs.Structure.{answer, or_first, size, successors};
 
-use crate::row::{Row, combine, first, mark, marked};
+use crate::row::{Order, Row, combine, first, mark, marked};
 use kripke::label::Label;
 use kripke::model::Model;
 use kripke::node::Node;
@@ -72,26 +72,40 @@ fn next<M: Model>(model: &M, quantifier: Quantifier, f: &Row, row: &mut Row)
     states_where(model, |s| onward(model, quantifier, s, f), row);
 }
 
-// Marks, from the last state down, each state of f that steps to marked states. Tells whether it marked one.
-fn sweep<M: Model>(model: &M, quantifier: Quantifier, f: &Row, row: &mut Row) -> bool
+// Marks each unmarked state of f that steps to marked states, in an order. Tells whether it marked one.
+#[inline(always)]
+fn sweep<M: Model>(model: &M, quantifier: Quantifier, f: &Row, order: Order, row: &mut Row) -> bool
     ensures { Sweeps (M.meaning model.now) quantifier (marks f.now) (marks row.old) (marks row.new) result }
 {
     let mut changed = false;
-    for s in (0..model.states()).rev() {
-        if !marked(row, s) && marked(f, s) && onward(model, quantifier, s, row) {
-            mark(row, s);
-            changed = true;
+    for i in 0..4usize {
+        let q = order.word(i);
+        // What is left to visit is taken bit by bit out of a word, which stays in a register, so that no time goes to other states.
+        let mut left = f[q] & !row[q];
+        while left != 0 {
+            let j = order.bit(left);
+            left &= !(1 << j);
+            let s = 64 * q + j;
+            if onward(model, quantifier, s, row) {
+                mark(row, s);
+                changed = true;
+            }
         }
     }
     changed
 }
 
-// E[f U g], or A[f U g]: sweeps from g on, until one marks nothing.
+// E[f U g], or A[f U g]: sweeps from g on, down and up in turn, until one marks nothing.
+// It runs within `apply`, where the quantifier is known.
+#[inline(always)]
 fn until<M: Model>(model: &M, quantifier: Quantifier, f: &Row, g: &Row, row: &mut Row)
-    ensures { Trim (M.meaning model.now) (marks g.now) → Divides (M.meaning model.now) quantifier (Until (Marked (marks f.now)) (Marked (marks g.now))) (marks row.new) }
+    ensures { Trim (M.meaning model.now) (marks f.now) → Trim (M.meaning model.now) (marks g.now) → Divides (M.meaning model.now) quantifier (Until (Marked (marks f.now)) (Marked (marks g.now))) (marks row.new) }
 {
     *row = *g;
-    while sweep(model, quantifier, f, row) {}
+    let mut order = Order::Down;
+    while sweep(model, quantifier, f, order, row) {
+        order = order.turned();
+    }
 }
 
 // EG f, or AG f: a state has it where not each path, or no path, comes to a state that lacks f.

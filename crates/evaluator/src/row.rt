@@ -1,6 +1,6 @@
-ghost use Rattle.std.specs.Prelude.{◌≡◌, ℕ, ◌+◌, ◌*◌, ◌<◌, ◌≤◌, ◌||◌, length, ◌==◌, nat_lt, slice_index};
+ghost use Rattle.std.specs.Prelude.{◌≡◌, ℕ, ◌+◌, ◌*◌, ◌<◌, ◌≤◌, ◌||◌, ◌≢◌, true, length, ◌==◌, nat_lt, slice_index};
 ghost use Rattle.evaluator.specs.Rows.{at, bit};
-ghost use Rattle.evaluator.specs.Marks.{marks, tally};
+ghost use Rattle.evaluator.specs.Marks.{marks, place, tally};
 
 use std::array;
 
@@ -23,6 +23,48 @@ pub(crate) fn mark(row: &mut Row, s: usize)
     ensures { (t : ℕ) → t < 256 → marks row.new t ≡ (t == s || marks row.old t) }
 {
     row[s / 64] |= 1 << (s % 64);
+}
+
+// From the last state down, or from the first state up.
+#[derive(Clone, Copy)]
+pub(crate) enum Order {
+    Down,
+    Up,
+}
+
+impl Order {
+    // The other order.
+    pub(crate) fn turned(self) -> Order
+        ensures { result ≢ self }
+    {
+        match self {
+            Order::Down => Order::Up,
+            Order::Up => Order::Down,
+        }
+    }
+
+    // The word of a row that comes at place i.
+    pub(crate) fn word(self, i: usize) -> usize
+        requires { i < 4 }
+        ensures { result ≡ place self i }
+    {
+        match self {
+            Order::Down => 3 - i,
+            Order::Up => i,
+        }
+    }
+
+    // The set bit of a word that comes first.
+    #[tactic(auto, using(crate::proofs::Bits::high_bit, crate::proofs::Bits::lowest_bit))]
+    pub(crate) fn bit(self, word: u64) -> usize
+        requires { word ≢ 0 }
+        ensures { (result < 64) × (bit word result ≡ true) }
+    {
+        match self {
+            Order::Down => word.ilog2() as usize,
+            Order::Up => word.trailing_zeros() as usize,
+        }
+    }
 }
 
 // The word whose first m bits are set.

@@ -1,35 +1,44 @@
-use Rattle.std.proofs.Common.{sym, ◌∙◌, arith, rules}
-use Rattle.std.proofs.lemmas.Bool.{both_ways}
-use Rattle.evaluator.proofs.Sweeps.{begun, passed, took}
+use Rattle.std.proofs.Common.{sym, ◌∙◌, inr, rules}
+use Rattle.evaluator.specs.Marks.{marks}
+use Rattle.evaluator.proofs.Bits.{taken_less}
+use Rattle.evaluator.proofs.Orders.{before, but, ended, entered, less, small_state, this_state}
+use Rattle.evaluator.proofs.Sweeps.{passed, same_left, took}
 use Rattle.evaluator.proofs.operators.sweep.Goals as goal
-use Rattle.evaluator.proofs.operators.sweep.Goals.{else-not-marked-via-then-not-marked+then-marked+else-onward, else-not-marked-via-then-not-marked+else-marked, else-not-marked-via-else-not-marked}
 
-pub loop-s-init : goal.loop-s-init
-loop-s-init g c = begun _ _ _ _ _ (omega arith)
+pub loop-left-init : goal.loop-left-init
+loop-left-init g c =
+    let inv = c.loop-i.invariant in
+    same_left _ _ _ _ _ _ _ _ inv
+    (λ s l h. entered c.args.order c.args.f.now (marks c.args.row.now) c.loop-i.i c.word-q.result c.loop-i.row c.word-q.ensures (λ x. search rules) s l (inv.due s l h).1 h)
+    (λ s l h. before c.args.order c.args.f.now (marks c.args.row.now) c.loop-i.i c.word-q.result c.loop-i.row c.word-q.ensures (λ x. search rules) s l (inv.above s l) h)
 
-pub loop-s-preserved-then-onward : goal.loop-s-preserved-then-onward
-loop-s-preserved-then-onward g c =
-    let made =
-    took _ _ (g.met.M.Model.lawful c.args.model.now) _ _ _ _ _ c.loop-s.changed c.loop-s.s _ c.loop-s.invariant (omega arith)
-    (search rules) (search rules) (search rules) c.mark.ensures in
-    search rules
+pub loop-left-smaller-then-onward : goal.loop-left-smaller-then-onward
+loop-left-smaller-then-onward g c = taken_less _ _ c.bit-j.ensures.0 c.bit-j.ensures.1
 
-pub loop-s-preserved : goal.loop-s-preserved
-loop-s-preserved g c =
-    passed _ _ _ _ _ _ c.loop-s.s _ (omega arith) c.loop-s.invariant
-    (elim c.else-not-marked.branch [
-      | else-not-marked-via-then-not-marked+then-marked+else-onward v ↦ λ hf on. absurd (both_ways _ (sym v.onward.ensures ∙ v.if-onward.false) on)
-      | else-not-marked-via-then-not-marked+else-marked v ↦ λ hf on. absurd (both_ways _ (sym v.marked-then-not-marked.ensures ∙ v.if-marked.false) hf)
-      | else-not-marked-via-else-not-marked v ↦ λ hf on. sym c.marked.ensures ∙ v.if-not-marked.false
-    ])
+pub loop-left-preserved-then-onward : goal.loop-left-preserved-then-onward
+loop-left-preserved-then-onward g c =
+    let inside = c.loop-i-test.true in
+    took _ _ _ _ _ _ _ _ c.loop-left.invariant _
+    (less c.args.order c.args.f.now (marks c.args.row.now) c.loop-i.i c.word-q.result c.loop-left.left c.bit-j.result c.word-q.ensures inside c.bit-j.ensures.0)
+    (but c.args.order c.args.f.now (marks c.args.row.now) c.loop-i.i c.word-q.result c.loop-left.left c.bit-j.result c.word-q.ensures inside c.bit-j.ensures.0)
+    _ (g.met.M.Model.lawful c.args.model.now) _
+    (small_state c.args.order c.args.f.now (marks c.args.row.now) c.loop-i.i c.word-q.result c.loop-left.left c.bit-j.result c.word-q.ensures inside c.bit-j.ensures.0)
+    (this_state c.args.order c.args.f.now (marks c.args.row.now) c.loop-i.i c.word-q.result c.loop-left.left c.bit-j.result c.word-q.ensures inside c.bit-j.ensures.0 c.bit-j.ensures.1)
+    (sym c.onward.ensures ∙ c.if-onward.true) c.mark.ensures
 
-pub returns : goal.returns
-returns g c =
-    let inv = c.loop-s.invariant in
-    record {
-      above = inv.above;
-      sound = inv.sound;
-      trim = inv.trim;
-      still = λ e s h hf on. inv.done e s (omega arith) h hf on;
-      more = inv.more;
-    }
+pub loop-left-smaller : goal.loop-left-smaller
+loop-left-smaller g c = taken_less _ _ c.bit-j.ensures.0 c.bit-j.ensures.1
+
+pub loop-left-preserved : goal.loop-left-preserved
+loop-left-preserved g c =
+    let inside = c.loop-i-test.true in
+    passed _ _ _ _ _ _ _ _ c.loop-left.invariant _
+    (less c.args.order c.args.f.now (marks c.args.row.now) c.loop-i.i c.word-q.result c.loop-left.left c.bit-j.result c.word-q.ensures inside c.bit-j.ensures.0)
+    (but c.args.order c.args.f.now (marks c.args.row.now) c.loop-i.i c.word-q.result c.loop-left.left c.bit-j.result c.word-q.ensures inside c.bit-j.ensures.0)
+    (sym c.onward.ensures ∙ c.if-onward.false)
+
+pub loop-i-preserved : goal.loop-i-preserved
+loop-i-preserved g c =
+    same_left _ _ _ _ _ _ _ _ c.loop-left.invariant
+    (λ s l h. ended c.args.order c.args.f.now (marks c.args.row.now) c.loop-i.i c.loop-left.left s (search rules) h)
+    (λ s l h. inr h)
