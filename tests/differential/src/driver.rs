@@ -12,6 +12,9 @@ use std::time::{Duration, Instant};
 
 /// Cases that are given to one run of `probe`.
 const BATCH: u64 = 200;
+const SMALL_BATCH: usize = 5000;
+/// All texts of so many bytes are read.
+const TEXT_BYTES: u32 = 4;
 /// Differences that are printed; all are counted.
 const PRINTED: usize = 20;
 /// Of an answer so many lines are printed, each of so many characters at most.
@@ -62,6 +65,23 @@ impl Driver {
             number += BATCH;
         }
         Ok(())
+    }
+
+    /// Runs every small case.
+    pub fn run_every(&mut self) -> io::Result<()> {
+        let jobs = generate::every::texts(TEXT_BYTES).chain(generate::every::pairs());
+        let mut cases = jobs.enumerate().map(|(number, job)| Case {
+            number: number as u64,
+            job,
+            bare: false,
+        });
+        loop {
+            let batch: Vec<Case> = cases.by_ref().take(SMALL_BATCH).collect();
+            if batch.is_empty() {
+                return Ok(());
+            }
+            self.batch(batch)?;
+        }
     }
 
     /// Gives cases to `probe`; where it ends before its time, the case that it

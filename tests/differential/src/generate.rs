@@ -1,6 +1,7 @@
 //! Random jobs: valid inputs, inputs near a limit, and damaged ones.
 
 mod comparisons;
+pub mod every;
 mod graphs;
 mod images;
 mod rulelists;

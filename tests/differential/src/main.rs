@@ -2,6 +2,7 @@
 //! docs/ alone.
 //!
 //!     differential PROBE PAIR SECONDS SEED    runs the two programs for so long
+//!     differential PROBE                      runs every small case
 //!     differential SEED CASE                  prints a case and its own answer
 
 mod counts;
@@ -26,6 +27,7 @@ mod text;
 
 use counts::Counts;
 use driver::{Case, Driver};
+use std::io;
 use std::process::ExitCode;
 
 fn main() -> ExitCode {
@@ -34,9 +36,13 @@ fn main() -> ExitCode {
     let number = |word: &str| word.parse::<u64>().ok();
     match words[..] {
         [probe, pair, seconds, seed] => match (number(seconds), number(seed)) {
-            (Some(seconds), Some(seed)) => run(probe, pair, seconds, seed),
+            (Some(seconds), Some(seed)) => {
+                println!("seed {seed}, {seconds} seconds");
+                run(probe, pair, seed, |driver| driver.run(seconds))
+            }
             _ => usage(),
         },
+        [probe] => run(probe, "", 0, Driver::run_every),
         [seed, case] => match (number(seed), number(case)) {
             (Some(seed), Some(case)) => show(seed, case),
             _ => usage(),
@@ -46,22 +52,28 @@ fn main() -> ExitCode {
 }
 
 fn usage() -> ExitCode {
-    eprintln!("differential PROBE PAIR SECONDS SEED, or differential SEED CASE");
+    eprintln!(
+        "differential PROBE PAIR SECONDS SEED, differential PROBE, or differential SEED CASE"
+    );
     ExitCode::from(2)
 }
 
-fn run(probe: &str, pair: &str, seconds: u64, seed: u64) -> ExitCode {
+fn run(
+    probe: &str,
+    pair: &str,
+    seed: u64,
+    cases: impl FnOnce(&mut Driver) -> io::Result<()>,
+) -> ExitCode {
     let mut driver = Driver {
         probe: probe.into(),
         pair: pair.into(),
         seed,
         counts: Counts::default(),
     };
-    if let Err(error) = driver.run(seconds) {
+    if let Err(error) = cases(&mut driver) {
         eprintln!("differential: {error}");
         return ExitCode::from(2);
     }
-    println!("seed {seed}, {seconds} seconds");
     println!("{}", driver.counts);
     ExitCode::from(u8::from(driver.counts.differences > 0))
 }
