@@ -69,6 +69,7 @@ impl Comparison {
     // Makes rounds until the comparison is closed, which is after no more of them than there are states.
     pub fn close(&mut self)
         ensures same { Same self.old self.new }
+        ensures still { ClosedAfter (first self.old) (second self.old) (rounds self.old) → self.new ≡ self.old }
         ensures closed { FirstClosed (first self.new) (second self.new) (rounds self.new) }
     {
         while self.outcome().is_none() {
