@@ -5,6 +5,7 @@ use Rattle.kripke.specs.Structure.{Kripke, State}
 use Rattle.kripke.specs.Ctl.{question, EF, AF, AG}
 use Rattle.kripke.specs.declared.node.Node.{Node}
 use Rattle.labels.specs.Kinds.{bits}
+use Rattle.reader.specs.Table.{node}
 use Rattle.examples.specs.Rows.{Row, answers, says, closes, told, untold, reads, too_deep, evaluated, unevaluated, alike, different}
 
 -- A state: its signal word and its successors. A structure begins at its state 0.
@@ -34,9 +35,6 @@ abbrev pub R : Kripke
 R = model (to 0 (1 ∷ 2 ∷ []) ∷ to 0 (3 ∷ []) ∷ to 0 (4 ∷ []) ∷ to 1 (3 ∷ []) ∷ to 2 (4 ∷ []) ∷ [])
 
 -- E[q0 U (q1&!q2)]: its last node is E[0 U 4].
-abbrev pub node : ℕ → ℕ → ℕ → Node
-node code a b = record { code = code; a = a; b = b }
-
 abbrev pub until : List Node
 until = node 1 0 0 ∷ node 1 1 0 ∷ node 1 2 0 ∷ node 2 2 0 ∷ node 3 1 3 ∷ node 11 0 4 ∷ []
 

@@ -58,7 +58,7 @@ is_space b = b == 32
 unfoldable pub tokens : ℕ → ℕ → List ℕ → Stream
 tokens k o [] = done o
 tokens (suc k) o (b ∷ bs) = tokens k (suc o) bs
-tokens zero o (b ∷ bs) = cond (b == 32) (tokens zero (suc o) bs) (next o (lex (b ∷ bs)).0 (tokens ((lex (b ∷ bs)).1 - 1) (suc o) bs))
+tokens zero o (b ∷ bs) = cond (is_space b) (tokens zero (suc o) bs) (next o (lex (b ∷ bs)).0 (tokens ((lex (b ∷ bs)).1 - 1) (suc o) bs))
 
 -- The first token, its offset, and the tokens after it.
 abbrev pub first : Stream → Token

@@ -42,11 +42,7 @@ abbrev pub node_count : Report → ℕ
 node_count (Alike rounds) = 0
 node_count (Different rounds nodes) = length nodes.now
 
--- A report for `room` bytes has few enough nodes, and room for its text; or it exceeds one of the two.
-pub record Fits (report : Report) (room : ℕ) : Type 0 where
-  pub few : node_count report ≤ 2045
-  pub held : length (report_text report) ≤ room
-
+-- A report for `room` bytes has too many nodes, or no room for its text.
 abbrev pub Exceeds : Report → ℕ → Type 0
 Exceeds report room = (2045 < node_count report) ⊎ (room < length (report_text report))
 

@@ -23,4 +23,4 @@ pub returns : goal.returns
 returns c =
     let (few, long) = c.in_ok-length.ensures in
     let n : c.in_ok-text.text.len ≡ length (report_text c.args.report) = omega (arith, c.in_ok-text.ensures.len, long) in
-    (accepted _ _ (record { few = few; held = omega arith }), filled _ _ _ _ _ _ (c.as_mut_slice.ensures.len ∙ n) n (c.write_text.ensures.written (omega (arith, c.write_text.ensures.long, c.as_mut_slice.ensures.len, n))))
+    (accepted _ _ few (omega arith), filled _ _ _ _ _ _ (c.as_mut_slice.ensures.len ∙ n) n (c.write_text.ensures.written (omega (arith, c.write_text.ensures.long, c.as_mut_slice.ensures.len, n))))
