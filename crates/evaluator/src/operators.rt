@@ -73,6 +73,7 @@ fn next<M: Model>(model: &M, quantifier: Quantifier, f: &Row, row: &mut Row)
 }
 
 // Marks each unmarked state of f that steps to marked states, in an order. Tells whether it marked one.
+// For speed it runs within `until`, as `onward` within it.
 #[inline(always)]
 fn sweep<M: Model>(model: &M, quantifier: Quantifier, f: &Row, order: Order, row: &mut Row) -> bool
     ensures { Sweeps (M.meaning model.now) quantifier (marks f.now) (marks row.old) (marks row.new) result }
@@ -80,7 +81,7 @@ fn sweep<M: Model>(model: &M, quantifier: Quantifier, f: &Row, order: Order, row
     let mut changed = false;
     for i in 0..4usize {
         let q = order.word(i);
-        // What is left to visit is taken bit by bit out of a word, which stays in a register, so that no time goes to other states.
+        // For speed, states to visit are taken bit by bit out of a word, which stays in a register: no other state takes time.
         let mut left = f[q] & !row[q];
         while left != 0 {
             let j = order.bit(left);
@@ -96,7 +97,7 @@ fn sweep<M: Model>(model: &M, quantifier: Quantifier, f: &Row, order: Order, row
 }
 
 // E[f U g], or A[f U g]: sweeps from g on, down and up in turn, until one marks nothing.
-// It runs within `apply`, where the quantifier is known.
+// For speed it runs within `apply`, where the quantifier is known.
 #[inline(always)]
 fn until<M: Model>(model: &M, quantifier: Quantifier, f: &Row, g: &Row, row: &mut Row)
     ensures { Trim (M.meaning model.now) (marks f.now) → Trim (M.meaning model.now) (marks g.now) → Divides (M.meaning model.now) quantifier (Until (Marked (marks f.now)) (Marked (marks g.now))) (marks row.new) }
