@@ -1,43 +1,85 @@
 // The command line.
 use crate::failure::Failure;
 use crate::task::Task;
-use crate::usage::{CHECK, COMPARE, RULES, SHOW, USAGE};
+use crate::usage::{BATCH, CHECK, COMPARE, RULES, SHOW, USAGE};
 use crate::{difference, task};
 use rules::rule::Rule;
 use std::alloc::Global;
 use std::fs;
+use std::str::Split;
 
-fn number(heap: Global, word: &str) -> Result<usize, Failure> {
+// The number that is the word at a place. One that is missing is an empty word, as the tool tells it.
+fn number(heap: Global, words: &[&str], place: usize) -> Result<usize, Failure> {
+    let word = words.get(place).copied().unwrap_or("");
     match word.parse::<u16>() {
         Ok(number) => Ok(usize::from(number)),
         Err(_) => Err(Failure::NoNumber(String::from_str(heap, word)?)),
     }
 }
 
+fn byte(numbers: &mut Split<'_, char>) -> Option<u8> {
+    numbers.next()?.parse().ok()
+}
+
 // A rule of four numbers with commas between them.
-fn rule(heap: Global, word: &str) -> Result<Rule, Failure> {
-    let numbers: Vec<Option<u8>> = word
-        .split(',')
-        .map(|number| number.parse().ok())
-        .collect(heap)?;
-    match numbers.as_slice() {
-        [Some(care), Some(need), Some(set), Some(clear)] => Ok(Rule {
-            care: *care,
-            need: *need,
-            set: *set,
-            clear: *clear,
-        }),
-        _ => Err(Failure::NoRule(String::from_str(heap, word)?)),
+fn rule_of(word: &str) -> Option<Rule> {
+    let mut numbers = word.split(',');
+    let rule = Rule {
+        care: byte(&mut numbers)?,
+        need: byte(&mut numbers)?,
+        set: byte(&mut numbers)?,
+        clear: byte(&mut numbers)?,
+    };
+    numbers.next().is_none().then_some(rule)
+}
+
+fn rules_of(heap: Global, words: &[&str]) -> Result<Vec<Rule>, Failure> {
+    let mut rules = Vec::new(heap);
+    for word in words {
+        match rule_of(word) {
+            Some(rule) => rules.push(rule)?,
+            None => return Err(Failure::NoRule(String::from_str(heap, word)?)),
+        }
+    }
+    Ok(rules)
+}
+
+// The bits, the initial state and the rules.
+fn on_rules(heap: Global, words: &[&str], task: Task) -> Result<String, Failure> {
+    let bits = number(heap, words, 0)?;
+    let initial = number(heap, words, 1)?;
+    let rules = rules_of(heap, words.get(2..).unwrap_or(&[]))?;
+    task::on_rules(heap, bits, initial, rules.as_slice(), task)
+}
+
+fn rules(heap: Global, words: &[&str]) -> Result<String, Failure> {
+    match words {
+        ["--dot", words @ ..] => on_rules(heap, words, Task::Graph),
+        // No condition, and so no numbers.
+        ["--check"] => on_rules(heap, &[], Task::List),
+        ["--check", condition, words @ ..] => on_rules(heap, words, Task::Check(condition)),
+        _ => on_rules(heap, words, Task::List),
     }
 }
 
-// The bits, the initial state and the rules. A number that is missing is an empty word, as the tool tells it.
-fn on_rules(heap: Global, words: &[&str], task: Task) -> Result<String, Failure> {
-    let mut words = words.iter().copied();
-    let bits = number(heap, words.next().unwrap_or(""))?;
-    let initial = number(heap, words.next().unwrap_or(""))?;
-    let rules: Vec<Rule> = words.map(|word| rule(heap, word)).try_collect(heap)?;
-    task::on_rules(heap, bits, initial, rules.as_slice(), task)
+fn on_file(rt: &HostRuntime, path: &str, task: Task) -> Result<String, Failure> {
+    let image = fs::read(rt, path)?;
+    task::on_image(rt.alloc(), image.as_slice(), task)
+}
+
+fn show(rt: &HostRuntime, words: &[&str]) -> Result<String, Failure> {
+    match words {
+        ["--dot", path] => on_file(rt, path, Task::Graph),
+        [path] => on_file(rt, path, Task::List),
+        _ => Err(Failure::Misused),
+    }
+}
+
+fn check(rt: &HostRuntime, words: &[&str]) -> Result<String, Failure> {
+    match words {
+        [path, condition] => on_file(rt, path, Task::Check(condition)),
+        _ => Err(Failure::Misused),
+    }
 }
 
 fn compare_files(rt: &HostRuntime, old: &str, new: &str) -> Result<String, Failure> {
@@ -46,37 +88,43 @@ fn compare_files(rt: &HostRuntime, old: &str, new: &str) -> Result<String, Failu
     difference::compare(rt.alloc(), old.as_slice(), new.as_slice())
 }
 
-fn on_file(rt: &HostRuntime, path: &str, task: Task) -> Result<String, Failure> {
-    let image = fs::read(rt, path)?;
-    task::on_image(rt.alloc(), image.as_slice(), task)
+fn compare(rt: &HostRuntime, words: &[&str]) -> Result<String, Failure> {
+    match words {
+        [old, new] => compare_files(rt, old, new),
+        _ => Err(Failure::Misused),
+    }
 }
 
-fn help(heap: Global, usage: &str) -> Result<String, Failure> {
+// How a command is called.
+fn help(heap: Global, name: &str) -> Result<String, Failure> {
+    let usage = match name {
+        "compare" => COMPARE,
+        "check" => CHECK,
+        "show" => SHOW,
+        "rules" => RULES,
+        "batch" => BATCH,
+        "--help" => USAGE,
+        _ => return Err(Failure::Misused),
+    };
     Ok(String::from_str(heap, usage)?)
 }
 
-// What the command of these words answers. The first word is the program's name.
-pub(crate) fn run(rt: &HostRuntime, words: &[&str]) -> Result<String, Failure> {
-    let heap = rt.alloc();
-    match words {
-        [_, "--help", ..] => help(heap, USAGE),
-        [_, "compare", "--help", ..] => help(heap, COMPARE),
-        [_, "check", "--help", ..] => help(heap, CHECK),
-        [_, "show", "--help", ..] => help(heap, SHOW),
-        [_, "rules", "--help", ..] => help(heap, RULES),
-        [_, "compare", old, new] => compare_files(rt, old, new),
-        [_, "check", path, condition] => on_file(rt, path, Task::Check(condition)),
-        [_, "show", "--dot", path] => on_file(rt, path, Task::Graph),
-        [_, "show", path] => on_file(rt, path, Task::List),
-        [_, "rules", "--dot", words @ ..] => on_rules(heap, words, Task::Graph),
-        // No condition, and so no numbers.
-        [_, "rules", "--check"] => on_rules(heap, &[], Task::List),
-        [_, "rules", "--check", condition, words @ ..] => on_rules(
-            heap,
-            words,
-            Task::Check(condition),
-        ),
-        [_, "rules", words @ ..] => on_rules(heap, words, Task::List),
+// What a command answers on the words after its name.
+fn perform(rt: &HostRuntime, name: &str, words: &[&str]) -> Result<String, Failure> {
+    match name {
+        "compare" => compare(rt, words),
+        "check" => check(rt, words),
+        "show" => show(rt, words),
+        "rules" => rules(rt.alloc(), words),
         _ => Err(Failure::Misused),
+    }
+}
+
+// What the command of these words answers.
+pub(crate) fn run(rt: &HostRuntime, words: &[&str]) -> Result<String, Failure> {
+    match words {
+        [name @ "--help", ..] | [name, "--help", ..] => help(rt.alloc(), name),
+        [name, words @ ..] => perform(rt, name, words),
+        [] => Err(Failure::Misused),
     }
 }

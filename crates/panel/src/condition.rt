@@ -1,13 +1,13 @@
 // A condition on one model: where it holds.
 use crate::failure::Failure;
 use crate::marks::Marks;
-use crate::words::InWords;
+use crate::words::yes_or_no;
 use kripke::label::Label;
 use kripke::model::Model;
 use kripke::node::{MOST_NODES, Node};
 use reader::read_formula;
-use std::alloc::Global;
-use std::fmt::Write;
+use std::alloc::{AllocError, Global};
+use std::fmt;
 
 // The nodes of a condition on so many questions.
 fn nodes_of(heap: Global, text: &str, questions: usize) -> Result<Vec<Node>, Failure> {
@@ -21,20 +21,42 @@ fn nodes_of(heap: Global, text: &str, questions: usize) -> Result<Vec<Node>, Fai
     }
 }
 
+// The states at which the root holds, each after a space.
+#[derive(Drop)]
+struct States<'a> {
+    marks: &'a Marks,
+    states: usize,
+}
+
+impl<'a> fmt::Display for States<'a> {
+    fn fmt<W: fmt::Write>(&self, f: &mut fmt::Formatter<W>) -> fmt::Result {
+        for s in 0..self.states {
+            if self.marks.root_holds(s) {
+                write!(f, " {s}")?;
+            }
+        }
+        Ok(())
+    }
+}
+
+fn told<M: Model>(
+    heap: Global,
+    model: &M,
+    text: &str,
+    marks: &Marks,
+) -> Result<String, AllocError> {
+    let answer = yes_or_no(marks.root.holds);
+    let count = marks.root.count;
+    let (states, initial) = (model.states(), model.initial());
+    format!(in heap;
+        "{answer}: {text}\ninitial state {initial}; holds at {count} of {states} states:{}\n",
+        States { marks, states }
+    )
+}
+
 // Whether the condition holds at the initial state, and at which states it holds.
 pub(crate) fn check<M: Model>(heap: Global, model: &M, text: &str) -> Result<String, Failure> {
     let nodes = nodes_of(heap, text, M::Label::questions())?;
     let marks = Marks::of(heap, model, nodes.as_slice())?;
-    let root = nodes.len().saturating_sub(1);
-    let (states, initial) = (model.states(), model.initial());
-    let answer = InWords(marks.root.holds);
-    let count = marks.root.count;
-    let mut out = format!(in heap;
-        "{answer}: {text}\ninitial state {initial}; holds at {count} of {states} states:"
-    )?;
-    for s in (0..states).filter(|s| marks.holds(root, *s)) {
-        write!(out, " {s}")?;
-    }
-    out.push_str("\n")?;
-    Ok(out)
+    Ok(told(heap, model, text, &marks)?)
 }

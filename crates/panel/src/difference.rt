@@ -5,7 +5,6 @@ use crate::trial::trial;
 use compare::comparison::Comparison;
 use compare::verdict::Outcome;
 use image::slot::Slot;
-use image::stored::StoredModel;
 use kripke::label::Label;
 use kripke::model::Model;
 use kripke::node::Node;
@@ -32,7 +31,7 @@ impl<'a> fmt::Display for Table<'a> {
 }
 
 // The formula as text, or, where it is too long or too deep to be read back, as its table of nodes.
-fn told(heap: Global, nodes: &[Node], questions: usize) -> Result<String, AllocError> {
+fn formula(heap: Global, nodes: &[Node], questions: usize) -> Result<String, AllocError> {
     match print_formula(heap, nodes, questions)? {
         Some(text) => format!(in heap; "true at OLD, false at NEW: {text}\n"),
         None => format!(in heap;
@@ -43,14 +42,14 @@ fn told(heap: Global, nodes: &[Node], questions: usize) -> Result<String, AllocE
 }
 
 // What is told of panels that differ.
-fn different<L: Label>(
+fn different<M: Model>(
     heap: Global,
-    nodes: &[Node],
     rounds: usize,
-    old: &StoredModel<L>,
-    new: &StoredModel<L>,
+    nodes: &[Node],
+    old: &M,
+    new: &M,
 ) -> Result<String, Failure> {
-    let formula = told(heap, nodes, L::questions())?;
+    let formula = formula(heap, nodes, M::Label::questions())?;
     let steps = trial(heap, nodes, old, new)?;
     Ok(format!(in heap; "different after {rounds} rounds\n{formula}to see it:\n{steps}")?)
 }
@@ -61,16 +60,30 @@ fn alike(heap: Global, rounds: usize, old: usize, new: usize) -> Result<String, 
     )
 }
 
-fn of_kind<L: Coded>(heap: Global, old: &[u8], new: &[u8]) -> Result<String, Failure> {
-    let old = load::<L>(heap, old, Slot::First)?;
-    let new = load::<L>(heap, new, Slot::Second)?;
-    let mut comparison = Comparison::open(heap, &old, &new)?;
-    comparison.close();
+// What a closed comparison of the two models tells.
+fn told<M: Model>(
+    heap: Global,
+    comparison: &Comparison,
+    old: &M,
+    new: &M,
+) -> Result<String, Failure> {
     let verdict = comparison.verdict()?;
     match verdict.outcome {
         Outcome::Alike => Ok(alike(heap, verdict.rounds, old.states(), new.states())?),
-        Outcome::Different => different(heap, comparison.table()?, verdict.rounds, &old, &new),
+        Outcome::Different => different(heap, verdict.rounds, comparison.table()?, old, new),
     }
+}
+
+fn compare_models<M: Model>(heap: Global, old: &M, new: &M) -> Result<String, Failure> {
+    let mut comparison = Comparison::open(heap, old, new)?;
+    comparison.close();
+    told(heap, &comparison, old, new)
+}
+
+fn of_kind<L: Coded>(heap: Global, old: &[u8], new: &[u8]) -> Result<String, Failure> {
+    let old = load::<L>(heap, old, Slot::First)?;
+    let new = load::<L>(heap, new, Slot::Second)?;
+    compare_models(heap, &old, &new)
 }
 
 // Compares two images; the first one's kind is asked of both.

@@ -1,6 +1,5 @@
-use crate::record::BadRecord;
 use crate::usage::USAGE;
-use crate::words::Refused;
+use crate::words::{cause_in_words, write_refusal};
 use kripke::refusal::{Error, Refusal};
 use std::alloc::{AllocError, AllocFailed};
 use std::{fmt, io};
@@ -15,8 +14,8 @@ pub(crate) enum Failure {
     // The word is no rule.
     NoRule(String),
     Refused(Refusal),
-    // The image is refused for one of its state records.
-    Record(Refused<BadRecord>),
+    // The image is refused for one of its state records, of which it is told what is wrong with it.
+    Record(Refusal, &'static str),
     // The text is refused as a condition.
     Condition(String, Refusal),
     Io(io::Error),
@@ -55,7 +54,28 @@ impl From<io::Error> for Failure {
     }
 }
 
-// The lines that tell the engineer; of a condition its text, and a caret under the place where it is refused.
+// The number of a state record, and what is wrong with it.
+fn write_record<W: fmt::Write>(
+    f: &mut fmt::Formatter<W>,
+    refusal: Refusal,
+    fault: &str,
+) -> fmt::Result {
+    let number = refusal.place.saturating_sub(8) / 8;
+    write_refusal(f, refusal, format_args!("state record {number} {fault}"))
+}
+
+// The text of a condition, a caret under the place where it is refused, and why.
+fn write_condition<W: fmt::Write>(
+    f: &mut fmt::Formatter<W>,
+    text: &str,
+    refusal: Refusal,
+) -> fmt::Result {
+    let width = refusal.place.min(text.len()).saturating_add(1);
+    writeln!(f, "{text}\n{:>width$}", "^")?;
+    write_refusal(f, refusal, cause_in_words(refusal.cause))
+}
+
+// The lines that tell the engineer.
 impl fmt::Display for Failure {
     fn fmt<W: fmt::Write>(&self, f: &mut fmt::Formatter<W>) -> fmt::Result {
         match self {
@@ -65,17 +85,9 @@ impl fmt::Display for Failure {
                 f,
                 "{word} is no rule CARE,NEED,SET,CLEAR of four bytes"
             ),
-            Failure::Refused(refusal) => writeln!(f, "{}", Refused::by_cause(*refusal)),
-            Failure::Record(refused) => writeln!(f, "{refused}"),
-            Failure::Condition(text, refusal) => {
-                let width = refusal.place.min(text.len()).saturating_add(1);
-                writeln!(
-                    f,
-                    "{text}\n{:>width$}\n{}",
-                    "^",
-                    Refused::by_cause(*refusal)
-                )
-            }
+            Failure::Refused(refusal) => write_refusal(f, *refusal, cause_in_words(refusal.cause)),
+            Failure::Record(refusal, fault) => write_record(f, *refusal, fault),
+            Failure::Condition(text, refusal) => write_condition(f, text, *refusal),
             Failure::Io(error) => writeln!(f, "panel: {error}"),
         }
     }

@@ -1,6 +1,7 @@
 // A model as text: a listing, or a graph for Graphviz.
 use kripke::label::Label;
 use kripke::model::Model;
+use std::alloc::{AllocError, Global};
 use std::fmt;
 
 // The questions that a label answers yes, each after a space.
@@ -9,77 +10,103 @@ struct Answers<L>(L);
 
 impl<L: Label> fmt::Display for Answers<L> {
     fn fmt<W: fmt::Write>(&self, f: &mut fmt::Formatter<W>) -> fmt::Result {
-        for i in (0..L::questions()).filter(|i| self.0.answer(*i)) {
-            write!(f, " q{i}")?;
+        for i in 0..L::questions() {
+            if self.0.answer(i) {
+                write!(f, " q{i}")?;
+            }
+        }
+        Ok(())
+    }
+}
+
+// The successors of a state, each after a space.
+#[derive(Drop)]
+struct Successors<'a, M> {
+    model: &'a M,
+    state: usize,
+}
+
+impl<'a, M: Model> fmt::Display for Successors<'a, M> {
+    fn fmt<W: fmt::Write>(&self, f: &mut fmt::Formatter<W>) -> fmt::Result {
+        for i in 0..self.model.degree(self.state) {
+            write!(f, " {}", self.model.successor(self.state, i))?;
+        }
+        Ok(())
+    }
+}
+
+// A line a state: its number, the questions that it answers yes, and its successors.
+#[derive(Drop)]
+struct Lines<'a, M>(&'a M);
+
+impl<'a, M: Model> fmt::Display for Lines<'a, M> {
+    fn fmt<W: fmt::Write>(&self, f: &mut fmt::Formatter<W>) -> fmt::Result {
+        let model = self.0;
+        for state in 0..model.states() {
+            let answers = Answers(model.label(state));
+            let successors = Successors { model, state };
+            writeln!(f, "state {state}:{answers} ->{successors}")?;
         }
         Ok(())
     }
 }
 
 // The kind, the number of states and the initial state, and then a line a state.
-#[derive(Drop)]
-pub(crate) struct Listing<'a, K, M> {
-    pub(crate) kind: K,
-    pub(crate) model: &'a M,
-}
-
-// A state, the questions that it answers yes, and its successors.
-fn write_line<M: Model, W: fmt::Write>(
-    f: &mut fmt::Formatter<W>,
+pub(crate) fn list<K: fmt::Display + Drop, M: Model>(
+    heap: Global,
+    kind: K,
     model: &M,
-    s: usize,
-) -> fmt::Result {
-    write!(f, "state {s}:{} ->", Answers(model.label(s)))?;
-    for next in (0..model.degree(s)).map(|i| model.successor(s, i)) {
-        write!(f, " {next}")?;
-    }
-    writeln!(f)
+) -> Result<String, AllocError> {
+    let (states, initial) = (model.states(), model.initial());
+    let lines = Lines(model);
+    format!(in heap; "{kind}, {states} states, initial state {initial}\n{lines}")
 }
 
-impl<'a, K: fmt::Display, M: Model> fmt::Display for Listing<'a, K, M> {
+// A line a step from a state.
+#[derive(Drop)]
+struct Edges<'a, M> {
+    model: &'a M,
+    state: usize,
+}
+
+impl<'a, M: Model> fmt::Display for Edges<'a, M> {
     fn fmt<W: fmt::Write>(&self, f: &mut fmt::Formatter<W>) -> fmt::Result {
-        let Listing { kind, model } = self;
-        let (states, initial) = (model.states(), model.initial());
-        writeln!(f, "{kind}, {states} states, initial state {initial}")?;
-        for s in 0..states {
-            write_line(f, *model, s)?;
+        let state = self.state;
+        for i in 0..self.model.degree(state) {
+            writeln!(f, "    {state} -> {};", self.model.successor(state, i))?;
         }
         Ok(())
     }
 }
 
-// The graph of a model, the initial state in a double circle, labels as the questions answered yes.
+// Each state, labelled by the questions that it answers yes, and its edges; the initial state in a double circle.
 #[derive(Drop)]
-pub(crate) struct Graph<'a, M>(pub(crate) &'a M);
+struct Vertices<'a, M>(&'a M);
 
-// A state and its edges.
-fn write_vertex<M: Model, W: fmt::Write>(
-    f: &mut fmt::Formatter<W>,
-    model: &M,
-    s: usize,
-) -> fmt::Result {
-    let shape = if s == model.initial() {
+impl<'a, M: Model> fmt::Display for Vertices<'a, M> {
+    fn fmt<W: fmt::Write>(&self, f: &mut fmt::Formatter<W>) -> fmt::Result {
+        let model = self.0;
+        for state in 0..model.states() {
+            let answers = Answers(model.label(state));
+            let shape = shape(state == model.initial());
+            let edges = Edges { model, state };
+            write!(
+                f,
+                "    {state} [label=\"{state}{answers}\"{shape}];\n{edges}"
+            )?;
+        }
+        Ok(())
+    }
+}
+
+fn shape(is_initial: bool) -> &'static str {
+    if is_initial {
         ", shape=doublecircle"
     } else {
         ""
-    };
-    writeln!(
-        f,
-        "    {s} [label=\"{s}{}\"{shape}];",
-        Answers(model.label(s))
-    )?;
-    for next in (0..model.degree(s)).map(|i| model.successor(s, i)) {
-        writeln!(f, "    {s} -> {next};")?;
     }
-    Ok(())
 }
 
-impl<'a, M: Model> fmt::Display for Graph<'a, M> {
-    fn fmt<W: fmt::Write>(&self, f: &mut fmt::Formatter<W>) -> fmt::Result {
-        f.write_str("digraph panel {\n")?;
-        for s in 0..self.0.states() {
-            write_vertex(f, self.0, s)?;
-        }
-        f.write_str("}\n")
-    }
+pub(crate) fn graph<M: Model>(heap: Global, model: &M) -> Result<String, AllocError> {
+    format!(in heap; "digraph panel {{\n{}}}\n", Vertices(model))
 }

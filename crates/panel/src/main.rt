@@ -4,6 +4,7 @@
 use std::process::ExitCode;
 use std::{env, io};
 
+mod batch;
 mod command;
 mod condition;
 mod difference;
@@ -12,23 +13,35 @@ mod listing;
 mod marks;
 mod record;
 mod task;
-#[cfg(test)]
-mod tests;
 mod trial;
 mod usage;
 mod words;
 
+// Answers the command of these words, or those of a file.
+fn answer(rt: &HostRuntime, words: &[&str]) -> io::Result<ExitCode> {
+    let answer = match words {
+        ["batch", path] => batch::run(rt, path),
+        _ => command::run(rt, words),
+    };
+    match answer {
+        Ok(text) => {
+            rt.print(text)?;
+            Ok(ExitCode::SUCCESS)
+        }
+        Err(failure) => {
+            rt.eprint(failure)?;
+            Ok(ExitCode::FAILURE)
+        }
+    }
+}
+
 fn main(rt: HostRuntime) -> io::Result<ExitCode> {
     let words: Vec<String> = env::args(&rt)?.collect(rt.alloc())?;
-    let words: Vec<&str> = words.iter().map(|word| word.as_str()).collect(rt.alloc())?;
-    match command::run(&rt, words.as_slice()) {
-        Ok(text) => {
-            print!(rt; "{text}")?;
-            Ok(ExitCode::SUCCESS)
-        },
-        Err(failure) => {
-            eprint!(rt; "{failure}")?;
-            Ok(ExitCode::FAILURE)
-        },
-    }
+    // The first word is the program's name.
+    let words: Vec<&str> = words
+        .iter()
+        .skip(1)
+        .map(String::as_str)
+        .collect(rt.alloc())?;
+    answer(&rt, words.as_slice())
 }

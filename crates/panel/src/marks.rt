@@ -21,8 +21,14 @@ impl Marks {
 
     // Whether node i holds at state s; a number that names none holds nowhere, where the evaluator's own reading would owe that it is in range.
     pub(crate) fn holds(&self, i: usize, s: usize) -> bool {
-        self.rows
-            .get(i.saturating_mul(4).saturating_add(s / 64))
-            .is_some_and(|bits| (*bits >> (s % 64)) & 1 == 1)
+        match self.rows.get(i.saturating_mul(4).saturating_add(s / 64)) {
+            Some(bits) => (*bits >> (s % 64)) & 1 == 1,
+            None => false,
+        }
+    }
+
+    // Whether the root, which is the last node, holds at state s.
+    pub(crate) fn root_holds(&self, s: usize) -> bool {
+        self.holds((self.rows.len() / 4).saturating_sub(1), s)
     }
 }

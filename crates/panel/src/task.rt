@@ -1,9 +1,7 @@
 // What is done with one model, whatever holds it.
-use crate::condition;
 use crate::failure::Failure;
-use crate::listing::{Graph, Listing};
-use crate::record::BadRecord;
-use crate::words::Refused;
+use crate::record::fault;
+use crate::{condition, listing};
 use image::slot::Slot;
 use image::stored::StoredModel;
 use kripke::model::Model;
@@ -32,13 +30,24 @@ fn perform<K: fmt::Display + Drop, M: Model>(
     task: Task,
 ) -> Result<String, Failure> {
     match task {
-        Task::List => Ok(format!(in heap; "{}", Listing { kind, model })?),
-        Task::Graph => Ok(format!(in heap; "{}", Graph(model))?),
+        Task::List => Ok(listing::list(heap, kind, model)?),
+        Task::Graph => Ok(listing::graph(heap, model)?),
         Task::Check(text) => condition::check(heap, model, text),
     }
 }
 
-// The model of an image. Of a refused state record it is told what is wrong with it.
+// Of a refused state record it is told what is wrong with it.
+fn explained<L: Coded>(image: &[u8], error: Error) -> Failure {
+    match error {
+        Error::Refused(refusal) if refusal.cause == Cause::StateRecord => {
+            let record = image.get(refusal.place..).unwrap_or(&[]);
+            Failure::Record(refusal, fault::<L>(record))
+        }
+        _ => Failure::from(error),
+    }
+}
+
+// The model of an image.
 pub(crate) fn load<L: Coded>(
     heap: Global,
     image: &[u8],
@@ -47,13 +56,7 @@ pub(crate) fn load<L: Coded>(
     let mut model = StoredModel::new(heap)?;
     match model.load(heap, image, slot) {
         Ok(()) => Ok(model),
-        Err(Error::Refused(refusal)) if refusal.cause == Cause::StateRecord => Err(
-            Failure::Record(Refused {
-                refusal,
-                reason: BadRecord::at::<L>(image, refusal.place),
-            }),
-        ),
-        Err(error) => Err(Failure::from(error)),
+        Err(error) => Err(explained::<L>(image, error)),
     }
 }
 

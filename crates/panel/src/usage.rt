@@ -3,6 +3,7 @@ pub(crate) const USAGE: &str = "usage: panel compare OLD.img NEW.img
        panel check MODEL.img CONDITION
        panel show [--dot] MODEL.img
        panel rules [--dot | --check CONDITION] BITS INITIAL [CARE,NEED,SET,CLEAR ...]
+       panel batch COMMANDS
        panel COMMAND --help
 ";
 
@@ -32,4 +33,11 @@ pub(crate) const RULES: &str =
 Lists the states of the model of the rules, or draws it, or checks a condition
 on it. A rule applies in a state whose bits under CARE equal NEED, and leads to
 the state without the CLEAR bits, with the SET bits.
+";
+
+pub(crate) const BATCH: &str = "usage: panel batch COMMANDS
+
+Answers the commands of a file, a line each, written as after the word panel; a
+word with spaces in it stands between double quotes. Each line is shown with its
+answer below it, or with why there is none.
 ";
