@@ -52,6 +52,9 @@ abbrev pub words : Coding
 words = record { kind = 1; decoded = λ bytes. Some (bits (word bytes)); fresh = 0 ∷ 0 ∷ 0 ∷ 0 ∷ [] }
 
 -- A reading's bytes are its level and its fault, pre-alarm and alarm limits, which rise.
+abbrev pub stored : ℕ → ℕ → ℕ → ℕ → List ℕ
+stored level fault pre_alarm alarm = level ∷ fault ∷ pre_alarm ∷ alarm ∷ []
+
 abbrev pub readings : Coding
 readings =
     record {

@@ -1,6 +1,7 @@
-ghost use Rattle.std.specs.Prelude.{◌≡◌, ◌<◌, MatchOption};
+ghost use Rattle.std.specs.Option.{option_map};
+ghost use Rattle.std.specs.Prelude.{◌≡◌, ◌<◌, Some, IfSome, MatchOption};
 ghost use Rattle.labels.specs.Bands.{shows};
-ghost use Rattle.labels.specs.Kinds.{bands, readings};
+ghost use Rattle.labels.specs.Kinds.{bands, readings, stored};
 ghost use Rattle.std.proofs.Common.{rules};
 
 use crate::coded::Coded;
@@ -107,11 +108,17 @@ impl Coded for Reading {
         Kind::Readings
     }
 
-    fn decode(bytes: [u8; 4]) -> Option<Reading> {
+    fn decode(bytes: [u8; 4]) -> Option<Reading>
+        ensures answers { option_map (λ x. bands x.level x.fault x.pre_alarm x.alarm) result ≡ readings.decoded bytes }
+        ensures bytes { IfSome result (λ x. stored x.level x.fault x.pre_alarm x.alarm ≡ bytes) }
+    {
         Reading::new(bytes[0], bytes[1], bytes[2], bytes[3])
     }
 
-    fn fresh() -> Reading {
+    fn fresh() -> Reading
+        ensures answers { Some (bands result.level result.fault result.pre_alarm result.alarm) ≡ readings.decoded readings.fresh }
+        ensures bytes { stored result.level result.fault result.pre_alarm result.alarm ≡ readings.fresh }
+    {
         Reading {
             level: 0,
             fault: 0,
