@@ -1,15 +1,25 @@
 -- Copying the marked nodes in their order, renumbered.
-use Rattle.std.proofs.Common.{◌≡◌, ℕ, suc, ◌+◌, ◌-◌, ◌<◌, Bool, true, false, cond, T, ◌≢◌, List, [], ◌∷◌, ◌++◌, length, get_or, set, sym, refl, ap, ◌∙◌, subst, arith, get_or-set_other, get_or-set_same, below_more}
+use Rattle.std.proofs.Common.{◌≡◌, ℕ, suc, ◌+◌, ◌-◌, ◌<◌, ◌≤◌, Bool, true, false, cond, T, ◌≢◌, List, [], ◌∷◌, ◌++◌, length, get_or, set, sym, refl, ap, ◌∙◌, subst, arith, get_or-set_other, get_or-set_same, below_more}
 use Rattle.std.proofs.lemmas.List.{get_or_append_left, get_or_push, length_push}
 use Rattle.kripke.specs.Nodes.{blank, made, formulas, formula}
 use Rattle.refine.specs.Growth.{next_node, Orderly}
 use Rattle.compare.specs.Reach.{uses_a, uses_b, Reach, here, by_a, by_b, Refs, Marking}
-use Rattle.compare.specs.Pruned.{rename, Copied, Pruned}
+use Rattle.compare.specs.Pruned.{rename, Pruned}
 use Rattle.kripke.specs.declared.node.Node.{Node}
 use Rattle.kripke.proofs.Tables.{formula_keeps, formula_new}
 use Rattle.refine.proofs.Orders.{node_is, orderly_push}
 use Rattle.compare.proofs.Renames.{never, rename_made, names_a, names_b, rename_fits, rename_same}
 use Rattle.compare.proofs.Marks.{kept_reach, reach_low}
+
+-- The marked nodes below i are ms, in their order; `to` has the new number of each.
+pub record Copied (q : ℕ) (ns : List Node) (ks : List Bool) (i : ℕ) (to : List ℕ) (ms : List Node) : Type 0 where
+  pub few : length ms ≤ i
+  pub orderly : Orderly q ms
+  pub each : (j : ℕ) → j < i → get_or ks j false ≡ true → get_or to j 0 < length ms
+  pub same : (j : ℕ) → j < i → get_or ks j false ≡ true → formula ms (get_or to j 0) ≡ formula ns j
+  pub image : (j : ℕ) → j < i → get_or ks j false ≡ true → get_or ms (get_or to j 0) blank ≡ rename to (get_or ns j blank)
+  pub onto : (k : ℕ) → k < length ms → (j : ℕ) × (j < i) × (get_or ks j false ≡ true) × (get_or to j 0 ≡ k)
+  pub last : (j : ℕ) → suc j ≡ i → get_or ks j false ≡ true → suc (get_or to j 0) ≡ length ms
 
 pub copied_skip : (qs : ℕ) (ns : List Node) (ks : List Bool) (i : ℕ) (to : List ℕ) (ms : List Node) → get_or ks i false ≡ false → Copied qs ns ks i to ms → Copied qs ns ks (i + 1) to ms
 copied_skip qs ns ks i to ms f c = record {

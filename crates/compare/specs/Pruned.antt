@@ -1,6 +1,6 @@
 -- The table of a node's parts alone, renumbered.
-use Rattle.std.specs.Prelude.{◌≡◌, ℕ, suc, ◌+◌, ◌-◌, ◌<◌, ◌≤◌, Bool, true, false, cond, List, length, slice_index, slice_index_or, Some, None, Option}
-use Rattle.kripke.specs.Nodes.{blank, formula}
+use Rattle.std.specs.Prelude.{◌≡◌, ℕ, ◌+◌, ◌-◌, ◌<◌, ◌≤◌, Bool, cond, List, length, slice_index, Some, None, Option}
+use Rattle.kripke.specs.Nodes.{formula}
 use Rattle.kripke.specs.Nodes as nodes
 use Rattle.kripke.specs.declared.node.Node.{Node}
 use Rattle.refine.specs.Growth.{Orderly}
@@ -13,16 +13,6 @@ named used x = cond used (Some x) None
 -- The node with the numbers that `to` has for what it names.
 abbrev pub rename : List ℕ → Node → Node
 rename to n = record { code = n.code; a = cond (uses_a n) (slice_index to n.a) n.a; b = cond (uses_b n) (slice_index to n.b) n.b }
-
--- The marked nodes below i are ms, in their order; `to` has the new number of each.
-pub record Copied (q : ℕ) (ns : List Node) (ks : List Bool) (i : ℕ) (to : List ℕ) (ms : List Node) : Type 0 where
-  pub few : length ms ≤ i
-  pub orderly : Orderly q ms
-  pub each : (j : ℕ) → j < i → slice_index_or ks j false ≡ true → slice_index to j < length ms
-  pub same : (j : ℕ) → j < i → slice_index_or ks j false ≡ true → formula ms (slice_index to j) ≡ formula ns j
-  pub image : (j : ℕ) → j < i → slice_index_or ks j false ≡ true → slice_index_or ms (slice_index to j) blank ≡ rename to (slice_index_or ns j blank)
-  pub onto : (k : ℕ) → k < length ms → (j : ℕ) × (j < i) × (slice_index_or ks j false ≡ true) × (slice_index to j ≡ k)
-  pub last : (j : ℕ) → suc j ≡ i → slice_index_or ks j false ≡ true → suc (slice_index to j) ≡ length ms
 
 -- A table in order for q questions, whose root means what the node meant, and has every node for a part.
 pub record Pruned (q : ℕ) (ns : List Node) (root : ℕ) (ms : List Node) : Type 0 where

@@ -1,5 +1,5 @@
 -- Until, on each path or on some path: a step that marks a state is right, and where no step is left the unmarked states have it not.
-use Rattle.std.proofs.Common.{◌≡◌, ℕ, zero, suc, ◌<◌, Bool, true, false, ◌⊎◌, sym, refl, ap, ◌∙◌, inl, inr, ⊎_elim, arith}
+use Rattle.std.proofs.Common.{◌≡◌, ℕ, zero, suc, ◌<◌, Bool, true, false, ◌⊎◌, sym, ap, ◌∙◌, inl, inr, ⊎_elim, arith}
 use Rattle.std.proofs.lemmas.Bool.{both_ways, cases_Bool}
 use Rattle.std.specs.List.{list_all, list_any}
 use Rattle.kripke.specs.Structure.{Kripke, Closed, Member, size, successors}
@@ -9,7 +9,7 @@ use Rattle.kripke.specs.Quantifiers.{dual}
 use Rattle.kripke.specs.declared.quantifier.Quantifier.{Quantifier}
 use Rattle.kripke.specs.declared.quantifier.Quantifier.TheVariants as quantifier
 use Rattle.evaluator.proofs.Members.{every_yes, every_no, some_yes, some_no}
-use Rattle.kripke.proofs.Walks.{first, first_member, tail_path, second, ahead, ahead_path, from_here}
+use Rattle.kripke.proofs.Walks.{first, first_member, Choice, walk, walk_path, tail_path, second, ahead, ahead_path, from_here}
 
 until_ahead : (P Q : ℕ → Type 0) (p : ℕ → ℕ) → P (p 0) → Until P Q (λ i. p (suc i)) → Until P Q p
 until_ahead P Q p h (n, g, f) = (suc n, g, before)
@@ -61,22 +61,12 @@ module _ (k : Kripke) (law : Closed k) (f g : ℕ → Bool) where
         (λ off. let z = every_no q (successors k s) off in (z.0, z.1, inr z.2))
         (cases_Bool (list_all q (successors k s)))
 
-    run : (s : ℕ) → s < size k → ℕ → ℕ
-    run s h zero = s
-    run s h (suc i) = run (choose s h).0 (law.inside s (choose s h).0 h (choose s h).1) i
+    abbrev next : Choice k
+    next s h = ((choose s h).0, (choose s h).1)
 
-    run_steps : (s : ℕ) (h : s < size k) (i : ℕ) → Member (run s h (suc i)) (successors k (run s h i))
-    unfolding run
-    run_steps s h zero = (choose s h).1
-    run_steps s h (suc i) = run_steps (choose s h).0 (law.inside s (choose s h).0 h (choose s h).1) i
-
-    run_path : (s : ℕ) (h : s < size k) → Path k s (run s h)
-    unfolding run
-    run_path s h = record { starts = refl; steps = run_steps s h }
-
-    each_out : Still k quantifier.ForAll f q → (n s : ℕ) (h : s < size k) → q s ≡ false → g (run s h n) ≡ true
-        → ((i : ℕ) → i < n → f (run s h i) ≡ true) → ⊥
-    unfolding run
+    each_out : Still k quantifier.ForAll f q → (n s : ℕ) (h : s < size k) → q s ≡ false → g (walk k law next s h n) ≡ true
+        → ((i : ℕ) → i < n → f (walk k law next s h i) ≡ true) → ⊥
+    unfolding walk
     each_out still zero s h out hg hf = both_ways (q s) out (above s h hg)
     each_out still (suc n) s h out hg hf =
         ⊎_elim
@@ -85,5 +75,5 @@ module _ (k : Kripke) (law : Closed k) (f g : ℕ → Bool) where
         (choose s h).2
 
     pub outside : (e : Quantifier) → Still k e f q → (s : ℕ) → s < size k → q s ≡ false → Paths k (dual e) s (λ p. U p → ⊥)
-    outside quantifier.ForAll still s h out = (run s h, run_path s h, λ u. each_out still u.0 s h out u.1 u.2)
+    outside quantifier.ForAll still s h out = (walk k law next s h, walk_path k law next s h, λ u. each_out still u.0 s h out u.1 u.2)
     outside quantifier.Exists still s h out = λ p way u. some_out still u.0 s h out p way u.1 u.2

@@ -1,11 +1,11 @@
 -- Lists of class numbers: how they begin, what a round makes of them, when nothing is split, and how many classes they have.
 use Rattle.std.proofs.Common.{◌≡◌, ℕ, suc, ◌+◌, ◌-◌, ◌<◌, ◌≤◌, eqb, ◌↔◌, List, get_or, sym, subst, arith}
 use mathlib.Core.Logic.Iff
-use Rattle.kripke.specs.Structure.{Kripke, Closed, size}
+use Rattle.kripke.specs.Structure.{Kripke, Closed, answer, size}
 use Rattle.kripke.specs.Rounds.{Matched, Same, Together, ClassOf, Settled, home, place, total}
 use Rattle.kripke.specs.Tests.{together}
 use Rattle.kripke.specs.Union.{both}
-use Rattle.kripke.specs.Classes.{Alike, Numbered, Low, Led, Opened, Refined, Count, Classes}
+use Rattle.kripke.specs.Classes.{Alike, Numbered, Low, Led, Refined, Count, Classes}
 use Rattle.kripke.proofs.Reflect.{beq_iff, eqb-T, together-T}
 use Rattle.kripke.proofs.Numbers.{first_to, first_of, second_to, second_of}
 use Rattle.kripke.proofs.Equal.{together_refl, class_low, class_own, class_same, class_one}
@@ -31,8 +31,10 @@ matched_map u law R S on i j hi hj h v m =
     (w, m', on v w (law.inside i v hi m) (law.inside j w hj m') r)
 
 module _ (a b : Kripke) (la : Closed a) (lb : Closed b) where
-  -- States of one label are together at the opening.
-  pub opened_numbered : (cls : List ℕ) → Opened a b cls → Numbered a b 0 cls
+  -- A list that has one number for states whose labels agree, and for no others, numbers the classes at the opening.
+  pub opened_numbered : (cls : List ℕ)
+      → ((i j : ℕ) → i < total a b → j < total a b → Alike cls i j ↔ ((q : ℕ) → answer (both a b) i q ≡ answer (both a b) j q))
+      → Numbered a b 0 cls
   opened_numbered cls o = numbered_of a b 0 cls (λ i j hi hj. Iff.trans (o i j hi hj) (Iff.symm (both_together a b la lb 0 i j hi hj)))
 
   -- A round of refinement numbers the classes after one round more.

@@ -1,10 +1,10 @@
 -- E[P U Q] and A[P U Q] are decided where P and Q are: the states from which one can, or must, come to Q by way of P grow until they rest.
-use Rattle.std.proofs.Common.{ℕ, zero, suc, ◌<◌, ◌⊎◌, sym, refl, subst, inl, inr, ⊎_elim, arith}
+use Rattle.std.proofs.Common.{ℕ, zero, suc, ◌<◌, ◌⊎◌, sym, subst, inl, inr, ⊎_elim, arith}
 use Rattle.kripke.specs.Structure.{Kripke, Closed, Member, size, successors}
 use Rattle.kripke.specs.Ctl.{Path, Until, OnSome, OnEach}
 use Rattle.kripke.proofs.Either.{Either, either_and, either_or, each_or_some}
 use Rattle.kripke.proofs.Growth.{count_exists, at_rest}
-use Rattle.kripke.proofs.Walks.{first, first_member, ahead, ahead_path, tail_path, second, from_here}
+use Rattle.kripke.proofs.Walks.{first, first_member, Choice, walk, walk_path, ahead, ahead_path, tail_path, second, from_here}
 
 -- P is decided at every state.
 abbrev pub DecidedAt : Kripke → (ℕ → Type 0) → Type 0
@@ -104,21 +104,11 @@ module _ (k : Kripke) (law : Closed k) (P Q : ℕ → Type 0) (d_p : DecidedAt k
         ⊎_elim (λ all. (first (successors k s), first_member (successors k s) (law.onward s h), inl all)) (λ z. (z.0, z.1, inr z.2))
         (each_or_some (Must j) _ (successors k s) (λ v m. must_decided j v (law.inside s v h m)))
 
-    run : (s : ℕ) → s < size k → ℕ → ℕ
-    run s h zero = s
-    run s h (suc i) = run (onward s h).0 (law.inside s (onward s h).0 h (onward s h).1) i
+    abbrev next : Choice k
+    next s h = ((onward s h).0, (onward s h).1)
 
-    run_steps : (s : ℕ) (h : s < size k) (i : ℕ) → Member (run s h (suc i)) (successors k (run s h i))
-    unfolding run
-    run_steps s h zero = (onward s h).1
-    run_steps s h (suc i) = run_steps (onward s h).0 (law.inside s (onward s h).0 h (onward s h).1) i
-
-    run_path : (s : ℕ) (h : s < size k) → Path k s (run s h)
-    unfolding run
-    run_path s h = record { starts = refl; steps = run_steps s h }
-
-    must_out : (n s : ℕ) (h : s < size k) → (Must j s → ⊥) → Q (run s h n) → ((i : ℕ) → i < n → P (run s h i)) → ⊥
-    unfolding run
+    must_out : (n s : ℕ) (h : s < size k) → (Must j s → ⊥) → Q (walk k law next s h n) → ((i : ℕ) → i < n → P (walk k law next s h i)) → ⊥
+    unfolding walk
     must_out zero s h out q before = out (must_from j s q)
     must_out (suc n) s h out q before =
         ⊎_elim
@@ -129,4 +119,4 @@ module _ (k : Kripke) (law : Closed k) (P Q : ℕ → Type 0) (d_p : DecidedAt k
   pub until_each : (s : ℕ) → s < size k → OnEach k s (Until P Q) ⊎ OnSome k s (λ p. Until P Q p → ⊥)
   until_each s h =
       let (j, rest) = must_rest in
-      ⊎_elim (λ c. inl (must_in j s h c)) (λ out. inr (run j rest s h, run_path j rest s h, λ goes. must_out j rest goes.0 s h out goes.1 goes.2)) (must_decided j s h)
+      ⊎_elim (λ c. inl (must_in j s h c)) (λ out. inr (walk k law (next j rest) s h, walk_path k law (next j rest) s h, λ goes. must_out j rest goes.0 s h out goes.1 goes.2)) (must_decided j s h)

@@ -16,10 +16,9 @@ abbrev pub ahead : ℕ → (ℕ → ℕ) → ℕ → ℕ
 ahead s p zero = s
 ahead s p (suc i) = p i
 
--- From s always on to the first successor.
-abbrev walk : Kripke → ℕ → ℕ → ℕ
-walk k s zero = s
-walk k s (suc i) = first (successors k (walk k s i))
+-- A successor of each state.
+abbrev pub Choice : Kripke → Type 0
+Choice k = (s : ℕ) → s < size k → (u : ℕ) × Member u (successors k s)
 
 module _ (k : Kripke) where
   pub ahead_path : (s u : ℕ) (p : ℕ → ℕ) → Member u (successors k s) → Path k u p → Path k s (ahead s p)
@@ -37,15 +36,25 @@ module _ (k : Kripke) where
   second s p way = subst (λ y. Member (p 1) (successors k y)) way.starts (way.steps 0)
 
   module _ (law : Closed k) where
-    walk_inside : (s : ℕ) → s < size k → (i : ℕ) → walk k s i < size k
-    walk_inside s h zero = h
-    walk_inside s h (suc i) =
-        let w = walk_inside s h i in
-        law.inside (walk k s i) (first (successors k (walk k s i))) w (first_member (successors k (walk k s i)) (law.onward (walk k s i) w))
+    -- From s always on to the chosen successor.
+    unfoldable pub walk : Choice k → (s : ℕ) → s < size k → ℕ → ℕ
+    walk next s h zero = s
+    walk next s h (suc i) = walk next (next s h).0 (law.inside s (next s h).0 h (next s h).1) i
+
+    walk_steps : (next : Choice k) (s : ℕ) (h : s < size k) (i : ℕ) → Member (walk next s h (suc i)) (successors k (walk next s h i))
+    unfolding walk
+    walk_steps next s h zero = (next s h).1
+    walk_steps next s h (suc i) = walk_steps next (next s h).0 (law.inside s (next s h).0 h (next s h).1) i
+
+    pub walk_path : (next : Choice k) (s : ℕ) (h : s < size k) → Path k s (walk next s h)
+    unfolding walk
+    walk_path next s h = record { starts = refl; steps = walk_steps next s h }
 
     -- From each state there is a path, and one through each successor.
     pub from_here : (s : ℕ) → s < size k → (p : ℕ → ℕ) × Path k s p
-    from_here s h = (walk k s, record { starts = refl; steps = λ i. first_member (successors k (walk k s i)) (law.onward (walk k s i) (walk_inside s h i)) })
+    from_here s h =
+        let next : Choice k = λ t l. (first (successors k t), first_member (successors k t) (law.onward t l)) in
+        (walk next s h, walk_path next s h)
 
     pub through : (s t : ℕ) → s < size k → Member t (successors k s) → (p : ℕ → ℕ) × Path k s p × (p 1 ≡ t)
     through s t h m =

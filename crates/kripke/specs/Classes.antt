@@ -1,7 +1,7 @@
 -- The classes after k rounds: how many there are, and what a list of class numbers has to satisfy.
 use Rattle.std.specs.Prelude.{◌≡◌, ℕ, suc, ◌<◌, ◌≤◌, T, ◌↔◌, List, ◌==◌, slice_index}
 use Rattle.std.specs.Bool.{beq}
-use Rattle.kripke.specs.Structure.{Kripke, answer}
+use Rattle.kripke.specs.Structure.{Kripke}
 use Rattle.kripke.specs.Rounds.{Matched, ClassOf, total}
 use Rattle.kripke.specs.Tests.{together}
 use Rattle.kripke.specs.Union.{both}
@@ -30,10 +30,6 @@ Low n cls = (i : ℕ) → i < n → slice_index cls i ≤ i
 
 abbrev pub Led : ℕ → List ℕ → Type 0
 Led n cls = (i : ℕ) → i < n → slice_index cls (slice_index cls i) ≡ slice_index cls i
-
--- The list has one number for states whose labels agree, and for no others.
-abbrev pub Opened : Kripke → Kripke → List ℕ → Type 0
-Opened a b cls = (i j : ℕ) → i < total a b → j < total a b → Alike cls i j ↔ ((q : ℕ) → answer (both a b) i q ≡ answer (both a b) j q)
 
 -- The list `new` splits the classes of `old` by the classes of the successors, both ways.
 abbrev pub Refined : Kripke → Kripke → List ℕ → List ℕ → Type 0

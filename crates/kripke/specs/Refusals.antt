@@ -77,8 +77,7 @@ JudgedBy Sooner V layer Good Same (Ok x) = Clean V × Good x
 JudgedBy Sooner V layer Good Same (Err e) = FirstBy Sooner V layer e × Same
 
 abbrev pub Judged : {X : Type 0} → Rules → Layer → (X → Type 0) → Type 0 → Result X Refusal → Type 0
-Judged V layer Good Same (Ok x) = Clean V × Good x
-Judged V layer Good Same (Err e) = First V layer e × Same
+Judged = JudgedBy Before
 
 -- The same of a call that allocates. Want of memory is met only by an input with no breach, and changes nothing either.
 abbrev pub JudgedInMemory : {X : Type 0} → Rules → Layer → (X → Type 0) → Type 0 → Result X Error → Type 0

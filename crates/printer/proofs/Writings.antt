@@ -3,8 +3,8 @@ use Rattle.std.proofs.Common.{◌≡◌, ℕ, ◌+◌, ◌≤◌, List, [], ◌�
 use Rattle.std.proofs.lemmas.List.{length-append}
 use Rattle.kripke.specs.Ctl.{Formula, truth, question, not, and, or, EX, AX, EF, AF, EG, AG, EU, AU}
 use Rattle.reader.specs.declared.token.Token.{Token}
-use Rattle.reader.specs.Grammar.{Mark, mark, marks, toks, All}
-use Rattle.reader.proofs.Phrases.{toks-append, all_append}
+use Rattle.reader.specs.Grammar.{Mark, marks, toks, All}
+use Rattle.reader.proofs.Phrases.{toks-append, all_append, all_left, all_right}
 use Rattle.printer.specs.declared.writer.Stop.{Stop}
 use Rattle.printer.specs.declared.writer.Stop.TheVariants.{Limit, Memory}
 use Rattle.printer.specs.Spelling.{spell, spelt}
@@ -19,14 +19,6 @@ spelt-append ms ns = ap spelt (toks-append ms ns) ∙ spelt_tokens (toks ms) (to
 
 length-spelt : (ms ns : List Mark) → length (spelt (toks (ms ++ ns))) ≡ length (spelt (toks ms)) + length (spelt (toks ns))
 length-spelt ms ns = ap length (spelt-append ms ns) ∙ length-append (spelt (toks ms)) (spelt (toks ns))
-
-all_left : (c : ℕ) (a b : List Mark) → All c (a ++ b) → All c a
-all_left c [] b h = tt
-all_left c (mark t m ∷ a) b h = (h.0, all_left c a b h.1)
-
-all_right : (c : ℕ) (a b : List Mark) → All c (a ++ b) → All c b
-all_right c [] b h = h
-all_right c (mark t m ∷ a) b h = all_right c a b h.1
 
 -- Marks that are appended, as a text that they are spelt as.
 pub appended : (q : ℕ) (before : List ℕ) (ms : List Mark) (text after : List ℕ) (r : Result (Unit {0}) Stop) → All q ms → text ≡ spelt (toks ms)

@@ -12,19 +12,12 @@ use Rattle.kripke.specs.declared.quantifier.Quantifier.TheVariants.{Exists, ForA
 use Rattle.reader.specs.declared.head.Opening.{Opening}
 use Rattle.reader.specs.declared.head.Opening.TheVariants.{Pair, Until}
 use Rattle.reader.specs.declared.head.Head.TheVariants as head
-use Rattle.reader.specs.Grammar.{Mark, mark, marks, All, Within}
+use Rattle.reader.specs.Grammar.{mark, marks, All, Within}
 use Rattle.reader.specs.Phrases.{conj, disj, Opened, Middle, closing, applied, applied_by, joined, joined_by}
 use Rattle.reader.specs.Table.{node, nodes, table}
+use Rattle.reader.proofs.Phrases.{all_left, all_right}
 use Rattle.reader.proofs.Heads.{built_marks, induction}
 use Rattle.reader.proofs.Tables.{applied_nodes, joined_nodes, some_node}
-
-all_left : (c : ℕ) (a b : List Mark) → All c (a ++ b) → All c a
-all_left c [] b h = tt
-all_left c (mark t m ∷ a) b h = (h.0, all_left c a b h.1)
-
-all_right : (c : ℕ) (a b : List Mark) → All c (a ++ b) → All c b
-all_right c [] b h = h
-all_right c (mark t m ∷ a) b h = all_right c a b h.1
 
 -- Nodes numbered from i on are in order.
 abbrev Ordered-from : ℕ → ℕ → List Node → Type 0

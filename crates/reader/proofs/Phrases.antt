@@ -25,6 +25,14 @@ pub all_append : (c : ℕ) (a b : List Mark) → All c a → All c b → All c (
 all_append c [] b h g = g
 all_append c (mark t m ∷ a) b h g = (h.0, all_append c a b h.1 g)
 
+pub all_left : (c : ℕ) (a b : List Mark) → All c (a ++ b) → All c a
+all_left c [] b h = tt
+all_left c (mark t m ∷ a) b h = (h.0, all_left c a b h.1)
+
+pub all_right : (c : ℕ) (a b : List Mark) → All c (a ++ b) → All c b
+all_right c [] b h = h
+all_right c (mark t m ∷ a) b h = all_right c a b h.1
+
 pub clash : {A : Type 0} → ◌≡◌ {A = ℕ} 0 1 → A
 clash z = absurd (let y : ◌≡◌ {A = ℕ} 0 1 = z in omega arith)
 

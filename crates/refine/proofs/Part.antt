@@ -9,7 +9,7 @@ use Rattle.kripke.specs.Classes.{Low, Led}
 use Rattle.refine.specs.Classes.{Here, leaders}
 use Rattle.std.specs.Int.{from_bool}
 use Rattle.refine.specs.Growth.{Orderly, Extends, Boolean, Ready, Named, Conjoined}
-use Rattle.refine.specs.Steps.{at, moved, Odd}
+use Rattle.refine.specs.Steps.{at, renumbered, Odd}
 use Rattle.refine.specs.declared.partition.Partition.{Partition}
 use Rattle.refine.proofs.Grown.{extends_trans}
 use Rattle.refine.proofs.Step.{low_after, led_after, exact_after, each_after, leaders_after, cn, apart}
@@ -60,7 +60,7 @@ pub record Cut : Type 0 where
   pub stay_made : Conjoined ns m1 (get_or nd (get_or cl s 0) 0) stays stay
   pub leave_made : Conjoined m1 ms (get_or nd (get_or cl s 0) 0) leaves leave
   pub new : List ℕ
-  pub is : (t : ℕ) → t < n → get_or new t 0 ≡ moved cl row (get_or cl s 0) s t
+  pub is : (t : ℕ) → t < n → get_or new t 0 ≡ renumbered cl row (get_or cl s 0) s t
 
 pub from_bool_le : (b : Bool) → from_bool b ≤ 1
 from_bool_le true = omega arith
@@ -81,7 +81,7 @@ abbrev pub cut : (p : Partition) (s : ℕ) (row : List Bool) → Odd p s row →
     → (i j : ℕ) → i ≡ from_bool (at row s) → j ≡ from_bool (not (at row s))
     → (m1 ms : List Node) (stay leave : ℕ) → Conjoined ns m1 (get_or p.node (get_or p.class s 0) 0) (x + i) stay
     → Conjoined m1 ms (get_or p.node (get_or p.class s 0) 0) (x + j) leave
-    → (new : List ℕ) → ((t : ℕ) → t < p.states → get_or new t 0 ≡ moved p.class row (get_or p.class s 0) s t) → Cut
+    → (new : List ℕ) → ((t : ℕ) → t < p.states → get_or new t 0 ≡ renumbered p.class row (get_or p.class s 0) s t) → Cut
 cut p s row o fit test name ready ns x named i j i_is j_is m1 ms stay leave j1 j2 new is =
     record {
       q = p.questions;

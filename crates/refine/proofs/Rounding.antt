@@ -12,12 +12,23 @@ use Rattle.kripke.specs.Classes.{Alike, Refined}
 use Rattle.kripke.proofs.Reflect.{some-T}
 use Rattle.kripke.proofs.Unions.{both_size, both_closed}
 use Rattle.refine.specs.Tests.{test, hits}
-use Rattle.refine.specs.Steps.{at, node_formula, class_of, class_formula, Exact, Shallow, Divided}
-use Rattle.refine.specs.Rounding.{Refining, Rounded, Tried}
+use Rattle.refine.specs.Steps.{at, node_formula, class_of, class_formula, Exact, Shallow, Keeps, Divided}
+use Rattle.refine.specs.Rounding.{Rounded, Tried}
 use Rattle.refine.specs.declared.partition.Partition.{Partition}
 use Rattle.refine.proofs.Somes.{some_ext, T-yes, bools}
 use Rattle.refine.proofs.Scan.{keeps_refl, keeps_trans}
 use Rattle.refine.proofs.Begins.{test_boolean}
+
+-- From p to q the classes were split by each class of p below i: which states have a successor there.
+pub record Refining (u : Kripke) (p q : Partition) (i : ℕ) : Type 0 where
+  pub keeps : Keeps p q
+  pub finer : (s t : ℕ) → s < p.states → t < p.states → Alike q.class s t → Alike p.class s t
+  pub kept : (s t : ℕ) → s < p.states → t < p.states → Alike p.class s t
+      → ((c : ℕ) → c < p.states → class_of p c ≡ c → hits u p.class c s ≡ hits u p.class c t) → Alike q.class s t
+  pub parted : (c s t : ℕ) → c < i → class_of p c ≡ c → s < p.states → t < p.states → Alike q.class s t
+      → hits u p.class c s ≡ hits u p.class c t
+  pub exact : Exact (test u) p → Exact (test u) q
+  pub shallow : (d : ℕ) → Shallow d p → Shallow (suc d) q
 
 module _ (u : Kripke) (p q : Partition) (i : ℕ) (h : Refining u p q i) (c name : ℕ) (cn : c < p.states) (lead : class_of p c ≡ c) (nm : name ≡ get_or p.node c 0) where
   here : name < length (vec_items p.nodes.list)

@@ -3,16 +3,26 @@ use Rattle.std.proofs.Common.{◌≡◌, ℕ, ◌+◌, ◌<◌, ◌≤◌, Bool,
 use mathlib.Core.Bool.{beq}
 use native.Mathlib.Decide.{ℕ_discrete}
 use Rattle.std.proofs.lemmas.Bool.{ne_eqb}
-use Rattle.kripke.specs.Ctl.{Formula}
+use Rattle.kripke.specs.Ctl.{Formula, nesting}
+use Rattle.kripke.specs.Classes.{Alike}
 use Rattle.kripke.specs.declared.node.Node.{Node}
 use Rattle.refine.specs.Classes.{leaders, bit}
-use Rattle.refine.specs.Steps.{at, class_of, Tells, Odd, Keeps, Parted, Scanned, Divided, own}
+use Rattle.refine.specs.Steps.{at, class_of, Exact, Shallow, Tells, Odd, Keeps, Parted, Divided, own}
 use Rattle.refine.specs.declared.partition.Partition.{Partition}
 use Rattle.refine.proofs.Sums.{sum_less, sum_mono, sum_ones, bit_le}
 use Rattle.refine.proofs.Part.{beq_refl}
-use Rattle.refine.specs.Growth.{Names, Ready, told}
+use Rattle.refine.specs.Growth.{Boolean, Names, Ready, told}
 use Rattle.refine.proofs.Grown.{extends_refl, extends_trans, ready}
 use Rattle.refine.proofs.Step.{ways, one_before, one_after, new_s0}
+
+-- From p to q classes were parted by the row only, and the states below i agree with the least of their class.
+pub record Scanned (p q : Partition) (f : Formula) (row : List Bool) (i : ℕ) : Type 0 where
+  pub keeps : Keeps p q
+  pub finer : (s t : ℕ) → s < p.states → t < p.states → Alike q.class s t → Alike p.class s t
+  pub kept : (s t : ℕ) → s < p.states → t < p.states → Alike p.class s t → at row s ≡ at row t → Alike q.class s t
+  pub sorted : (t : ℕ) → t < i → at row (class_of q t) ≡ at row t
+  pub exact : (v : Formula → ℕ → Bool) → Boolean v → Tells v p f row → Exact v p → Exact v q
+  pub shallow : (d : ℕ) → nesting f ≤ d → Shallow d p → Shallow d q
 
 beq_eq : (a b : Bool) → beq a b ≡ true → a ≡ b
 beq_eq true true h = refl

@@ -33,17 +33,6 @@ pub record Halved (pair : Pair) (table : List ℕ) (c name : ℕ) (p q : Partiti
   pub hit : (s : ℕ) → s < total (first_of pair) (second_of pair) → slice_index_or row s false ≡ hits (both_of pair) table c s
   pub divided : Divided p q (record { code = 5; a = name; b = 0 }) row
 
--- From p to q the classes were split by each class of p below i: which states have a successor there.
-pub record Refining (u : Kripke) (p q : Partition) (i : ℕ) : Type 0 where
-  pub keeps : Keeps p q
-  pub finer : (s t : ℕ) → s < p.states → t < p.states → Alike q.class s t → Alike p.class s t
-  pub kept : (s t : ℕ) → s < p.states → t < p.states → Alike p.class s t
-      → ((c : ℕ) → c < p.states → class_of p c ≡ c → hits u p.class c s ≡ hits u p.class c t) → Alike q.class s t
-  pub parted : (c s t : ℕ) → c < i → class_of p c ≡ c → s < p.states → t < p.states → Alike q.class s t
-      → hits u p.class c s ≡ hits u p.class c t
-  pub exact : Exact (test u) p → Exact (test u) q
-  pub shallow : (d : ℕ) → Shallow d p → Shallow (suc d) q
-
 -- States of one class agree on whether they have a successor in a class of the table before.
 abbrev pub Tried : Kripke → ℕ → List ℕ → List ℕ → Type 0
 Tried u n before class = (c s t : ℕ) → s < n → t < n → Alike class s t → hits u before c s ≡ hits u before c t

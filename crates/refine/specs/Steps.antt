@@ -30,8 +30,8 @@ abbrev pub Shallow : ℕ → Partition → Type 0
 Shallow d p = (t : ℕ) → t < p.states → nesting (class_formula p t) ≤ d
 
 -- The number of t once the states of class c that agree with s on the row have the number s.
-abbrev pub moved : List ℕ → List Bool → ℕ → ℕ → ℕ → ℕ
-moved class row c s t = cond (slice_index class t == c && beq (at row t) (at row s)) s (slice_index class t)
+abbrev pub renumbered : List ℕ → List Bool → ℕ → ℕ → ℕ → ℕ
+renumbered class row c s t = cond (slice_index class t == c && beq (at row t) (at row s)) s (slice_index class t)
 
 -- The formula of a test that the partition's nodes do not have yet.
 abbrev pub own : Partition → Node → Formula
@@ -59,16 +59,7 @@ pub record Keeps (p q : Partition) : Type 0 where
 pub record Parted (p q : Partition) (f : Formula) (s : ℕ) (row : List Bool) : Type 0 where
   pub keeps : Keeps p q
   pub count : q.count ≡ suc p.count
-  pub class : (t : ℕ) → t < p.states → class_of q t ≡ moved p.class row (class_of p s) s t
-  pub exact : (v : Formula → ℕ → Bool) → Boolean v → Tells v p f row → Exact v p → Exact v q
-  pub shallow : (d : ℕ) → nesting f ≤ d → Shallow d p → Shallow d q
-
--- From p to q classes were parted by the row only, and the states below i agree with the least of their class.
-pub record Scanned (p q : Partition) (f : Formula) (row : List Bool) (i : ℕ) : Type 0 where
-  pub keeps : Keeps p q
-  pub finer : (s t : ℕ) → s < p.states → t < p.states → Alike q.class s t → Alike p.class s t
-  pub kept : (s t : ℕ) → s < p.states → t < p.states → Alike p.class s t → at row s ≡ at row t → Alike q.class s t
-  pub sorted : (t : ℕ) → t < i → at row (class_of q t) ≡ at row t
+  pub class : (t : ℕ) → t < p.states → class_of q t ≡ renumbered p.class row (class_of p s) s t
   pub exact : (v : Formula → ℕ → Bool) → Boolean v → Tells v p f row → Exact v p → Exact v q
   pub shallow : (d : ℕ) → nesting f ≤ d → Shallow d p → Shallow d q
 

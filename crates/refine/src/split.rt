@@ -1,6 +1,6 @@
 ghost use Rattle.std.specs.Prelude.{◌≡◌, ℕ, ◌<◌, ◌≤◌, T, length, slice_index};
 ghost use Rattle.refine.specs.Growth.{Names, Ready, next_node, told};
-ghost use Rattle.refine.specs.Steps.{Divided, Odd, Parted, at, class_of, moved};
+ghost use Rattle.refine.specs.Steps.{Divided, Odd, Parted, at, class_of, renumbered};
 ghost use Rattle.std.specs.Bool.{beq};
 
 use crate::partition::Partition;
@@ -9,7 +9,7 @@ use kripke::node::Node;
 // Gives the number s to the states of class c that agree with s on the row.
 fn renumber(class: &mut [u16; 512], row: &[bool; 512], states: u16, c: u16, s: u16)
     requires { (states ≤ 512) × (s < states) }
-    ensures { (t : ℕ) → t < states → slice_index class.new t ≡ moved class.old row.now c s t }
+    ensures { (t : ℕ) → t < states → slice_index class.new t ≡ renumbered class.old row.now c s t }
 {
     let side = row[s as usize];
     for (t, number) in class[..states as usize].iter_mut().enumerate() {

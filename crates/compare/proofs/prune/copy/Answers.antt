@@ -2,9 +2,9 @@ use Rattle.std.proofs.Common.{◌≡◌, ℕ, ◌+◌, ◌<◌, List, length, ge
 use Rattle.std.proofs.lemmas.List.{get_or_read}
 use Rattle.kripke.specs.Nodes.{blank}
 use Rattle.kripke.specs.declared.node.Node.{Node}
-use Rattle.compare.specs.Pruned.{rename, Copied}
+use Rattle.compare.specs.Pruned.{rename}
 use Rattle.compare.proofs.Renames.{nodes_fit}
-use Rattle.compare.proofs.Copies.{copied_skip, copied_push, pruned}
+use Rattle.compare.proofs.Copies.{Copied, copied_skip, copied_push, pruned}
 use Rattle.compare.proofs.prune.copy.Goals as goal
 use Rattle.compare.proofs.prune.copy.Goals.{then-reached-i, else-reached-i}
 

@@ -1,5 +1,5 @@
 use Rattle.std.proofs.Common.{◌≡◌, length, vec_items}
-use Rattle.compare.specs.Pruned.{Copied}
+use Rattle.compare.proofs.Copies.{Copied}
 use Rattle.compare.proofs.prune.copy.Given as goal
 
 abbrev pub invariant-loop-i : goal.invariant-loop-i

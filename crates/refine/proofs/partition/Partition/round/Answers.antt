@@ -3,10 +3,9 @@ use Rattle.kripke.specs.Structure.{Kripke}
 use Rattle.refine.specs.Pairs.{first_of, second_of, both_of}
 use Rattle.refine.specs.Tests.{hits}
 use Rattle.refine.specs.Steps.{at}
-use Rattle.refine.specs.Rounding.{Refining}
 use Rattle.refine.specs.declared.partition.Partition.{Partition}
 use Rattle.refine.proofs.Rowed.{table_lawful}
-use Rattle.refine.proofs.Rounding.{refining_none, refining_skip, refining_step, stale, inside_both, rounded}
+use Rattle.refine.proofs.Rounding.{Refining, refining_none, refining_skip, refining_step, stale, inside_both, rounded}
 use Rattle.refine.proofs.partition.Partition.round.Goals as goal
 use Rattle.refine.proofs.partition.Partition.round.Goals.{then-class-c+then-new-c, else-class-c, else-class-c-via-then-class-c+else-new-c, else-class-c-via-else-class-c}
 

@@ -1,5 +1,5 @@
 use Rattle.refine.specs.Pairs.{both_of}
-use Rattle.refine.specs.Rounding.{Refining}
+use Rattle.refine.proofs.Rounding.{Refining}
 use Rattle.refine.proofs.partition.Partition.round.Given as goal
 
 abbrev pub invariant-loop-c : goal.invariant-loop-c
