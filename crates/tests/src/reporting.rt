@@ -1,3 +1,5 @@
+// Tests of the report: its texts, in bytes of their own and in given ones.
+
 use kripke::node::Node;
 use kripke::operator::Operator;
 use report::report::Report;

@@ -1,3 +1,5 @@
+// Tests of the reader: texts that are read, and each refusal with its place.
+
 use kripke::node::Node;
 use kripke::operator::Operator;
 use kripke::refusal::Cause::{self, ManyNodes, QuestionNumber, TextLimits, TooDeep, Unexpected};

@@ -1,6 +1,0 @@
-// Tests of the report: its texts, in bytes of their own and in given ones.
-
-#![tactic(auto)]
-
-#[cfg(test)]
-mod tests;
