@@ -13,8 +13,10 @@ use std::alloc::Global;
 use std::io;
 use std::time::Instant;
 
-// The best of so many times.
+// The best of so many times, and of what takes about a second or more, of so many.
 const TIMES: u32 = 50;
+
+const FEW_TIMES: u32 = 3;
 
 // The least time of an evaluation, in nanoseconds, and how many states were marked: in the last row, and in all.
 #[derive(Clone, Copy)]
@@ -34,12 +36,17 @@ fn ones(words: &[u64]) -> u32 {
 }
 
 // Measures an evaluation, several at once where it is short.
-fn measure<M: Model>(rt: &HostRuntime, model: &M, nodes: &[Node]) -> io::Result<Measured> {
+fn measure<M: Model>(
+    rt: &HostRuntime,
+    model: &M,
+    nodes: &[Node],
+    times: u32,
+) -> io::Result<Measured> {
     let mut words = vec![in rt.alloc(); 0u64; nodes.len().saturating_mul(4)]?;
     let at_once = if nodes.len() > 9 { 1u32 } else { 1000 };
     let mut least = u128::MAX;
     let mut root = 0;
-    for _ in 0..TIMES {
+    for _ in 0..times {
         let start = Instant::now(rt)?;
         for _ in 0..at_once {
             match evaluate(model, nodes, words.as_mut_slice()) {
@@ -53,9 +60,13 @@ fn measure<M: Model>(rt: &HostRuntime, model: &M, nodes: &[Node]) -> io::Result<
     Ok(Measured { least, root, all })
 }
 
-fn print_time<M: Model>(rt: &HostRuntime, name: &str, model: &M, nodes: &[Node]) -> io::Result<()> {
-    let Measured { least, root, all } = measure(rt, model, nodes)?;
+fn print_measured(rt: &HostRuntime, name: &str, measured: Measured) -> io::Result<()> {
+    let Measured { least, root, all } = measured;
     println!(rt; "  {name}: {least} ns, {root} at the root, {all} in all rows")
+}
+
+fn print_time<M: Model>(rt: &HostRuntime, name: &str, model: &M, nodes: &[Node]) -> io::Result<()> {
+    print_measured(rt, name, measure(rt, model, nodes, TIMES)?)
 }
 
 // Question 0, true, its negation, and a last node.
@@ -140,10 +151,10 @@ fn print_times<M: Model>(rt: &HostRuntime, name: &str, model: &M) -> io::Result<
     )
 }
 
-fn stored(heap: Global, shape: Shape) -> io::Result<StoredModel<SignalWord>> {
-    let bytes = image(heap, shape, Some(0))?;
+fn stored(heap: Global, shape: Shape, lit: u8) -> io::Result<StoredModel<SignalWord>> {
+    let bytes = image(heap, shape, Some(lit))?;
     let mut model = StoredModel::new(heap)?;
-    match model.load(heap, bytes.as_slice(), Slot::First) {
+    match model.load(bytes.as_slice(), Slot::First) {
         Ok(()) => Ok(model),
         Err(_) => Err(io::Error::from(io::ErrorKind::InvalidInput)),
     }
@@ -153,13 +164,17 @@ pub(crate) fn report(rt: &HostRuntime) -> io::Result<()> {
     print_times(
         rt,
         "256 states, 16 successors each",
-        &stored(rt.alloc(), Shape::Dense)?,
+        &stored(rt.alloc(), Shape::Dense, 0)?,
     )?;
-    print_times(rt, "ring with the sweep", &stored(rt.alloc(), Shape::Ring)?)?;
+    print_times(
+        rt,
+        "ring with the sweep",
+        &stored(rt.alloc(), Shape::Ring, 0)?,
+    )?;
     print_times(
         rt,
         "ring against the sweep",
-        &stored(rt.alloc(), Shape::RingBackward)?,
+        &stored(rt.alloc(), Shape::RingBackward, 0)?,
     )?;
     let rule = Rule {
         care: 0,
@@ -167,9 +182,63 @@ pub(crate) fn report(rt: &HostRuntime) -> io::Result<()> {
         set: 1,
         clear: 2,
     };
+    print_times(
+        rt,
+        "rule model, 256 states, 16 rules that apply",
+        &ruled(&[rule; 16])?,
+    )?;
+    report_worst(rt)
+}
+
+fn ruled(rules: &[Rule]) -> io::Result<RuleModel> {
     let mut model = RuleModel::new();
-    if model.load(8, 0, &[rule; 16]).is_err() {
-        return Err(io::Error::from(io::ErrorKind::InvalidInput));
+    match model.load(8, 0, rules) {
+        Ok(()) => Ok(model),
+        Err(_) => Err(io::Error::from(io::ErrorKind::InvalidInput)),
     }
-    print_times(rt, "rule model, 256 states, 16 rules that apply", &model)
+}
+
+// Rules that count with the highest bit as the lowest: each state but 255 leads to the one whose bits, read backward, are the next number,
+// so that the path goes to and fro. Before them stand as many that lead from each state to itself.
+fn counting_rules() -> [Rule; 16] {
+    let mut rules = [Rule::default(); 16];
+    for k in 0..8usize {
+        let bit = 128u8 >> k;
+        let above = !(255u8 >> k);
+        rules[8 + k] = Rule {
+            care: above | bit,
+            need: above,
+            set: bit,
+            clear: above,
+        };
+    }
+    rules
+}
+
+// True, the conjunction of the first eight questions, which holds at state 255 alone where the label is the number, and then untils of the two.
+fn counting_table(heap: Global) -> io::Result<Vec<Node>> {
+    let mut nodes = Vec::new(heap);
+    nodes.push(Node::new(Operator::Truth, 0, 0))?;
+    nodes.push(Node::new(Operator::Question, 0, 0))?;
+    for j in 1..8u16 {
+        nodes.push(Node::new(Operator::Question, j, 0))?;
+        nodes.push(Node::new(Operator::And, 2 * j, 2 * j - 1))?;
+    }
+    for _ in 16..MOST_NODES {
+        nodes.push(Node::new(Operator::EU, 0, 15))?;
+    }
+    Ok(nodes)
+}
+
+// What takes the evaluator longest: as many sweeps as there are states.
+fn report_worst(rt: &HostRuntime) -> io::Result<()> {
+    let name = "2045 nodes, nearly each E[true U f], f at the path's end";
+    println!(rt; "a path to and fro, 16 successors each")?;
+    let untils = long_table(rt.alloc(), &[Operator::EU])?;
+    let model = stored(rt.alloc(), Shape::ToAndFro, 128)?;
+    print_measured(rt, name, measure(rt, &model, untils.as_slice(), FEW_TIMES)?)?;
+    println!(rt; "a path to and fro, by 16 rules")?;
+    let untils = counting_table(rt.alloc())?;
+    let model = ruled(&counting_rules())?;
+    print_measured(rt, name, measure(rt, &model, untils.as_slice(), FEW_TIMES)?)
 }

@@ -1,7 +1,7 @@
 -- Copying the marked nodes in their order, renumbered.
 use Rattle.std.proofs.Common.{◌≡◌, ℕ, suc, ◌+◌, ◌-◌, ◌<◌, ◌≤◌, Bool, true, false, cond, T, ◌≢◌, List, [], ◌∷◌, ◌++◌, length, get_or, set, sym, refl, ap, ◌∙◌, subst, arith, get_or-set_other, get_or-set_same, below_more}
 use Rattle.std.proofs.lemmas.List.{get_or_append_left, get_or_push, length_push}
-use Rattle.kripke.specs.Nodes.{blank, made, formulas, formula}
+use Rattle.kripke.specs.Nodes.{blank_node, made, formulas, formula}
 use Rattle.refine.specs.Growth.{next_node, Orderly}
 use Rattle.compare.specs.Reach.{uses_a, uses_b, Reach, here, by_a, by_b, Refs, Marking}
 use Rattle.compare.specs.Pruned.{rename, Pruned}
@@ -17,7 +17,7 @@ pub record Copied (q : ℕ) (ns : List Node) (ks : List Bool) (i : ℕ) (to : Li
   pub orderly : Orderly q ms
   pub each : (j : ℕ) → j < i → get_or ks j false ≡ true → get_or to j 0 < length ms
   pub same : (j : ℕ) → j < i → get_or ks j false ≡ true → formula ms (get_or to j 0) ≡ formula ns j
-  pub image : (j : ℕ) → j < i → get_or ks j false ≡ true → get_or ms (get_or to j 0) blank ≡ rename to (get_or ns j blank)
+  pub image : (j : ℕ) → j < i → get_or ks j false ≡ true → get_or ms (get_or to j 0) blank_node ≡ rename to (get_or ns j blank_node)
   pub onto : (k : ℕ) → k < length ms → (j : ℕ) × (j < i) × (get_or ks j false ≡ true) × (get_or to j 0 ≡ k)
   pub last : (j : ℕ) → suc j ≡ i → get_or ks j false ≡ true → suc (get_or to j 0) ≡ length ms
 
@@ -27,7 +27,7 @@ copied_skip qs ns ks i to ms f c = record {
   orderly = c.orderly;
   each = below_more (λ j. get_or ks j false ≡ true → get_or to j 0 < length ms) i c.each (λ e. never (sym f ∙ e));
   same = below_more (λ j. get_or ks j false ≡ true → formula ms (get_or to j 0) ≡ formula ns j) i c.same (λ e. never (sym f ∙ e));
-  image = below_more (λ j. get_or ks j false ≡ true → get_or ms (get_or to j 0) blank ≡ rename to (get_or ns j blank)) i c.image (λ e. never (sym f ∙ e));
+  image = below_more (λ j. get_or ks j false ≡ true → get_or ms (get_or to j 0) blank_node ≡ rename to (get_or ns j blank_node)) i c.image (λ e. never (sym f ∙ e));
   onto = λ k h. let r = c.onto k h in (r.0, omega (arith, r.1), r.2, r.3);
   last = λ j h e. let s : j ≡ i = omega arith in never (sym f ∙ sym (ap (λ (z : ℕ). get_or ks z false) s) ∙ e);
 }
@@ -35,13 +35,13 @@ copied_skip qs ns ks i to ms f c = record {
 module _ (qs : ℕ) (ns : List Node) (ks : List Bool) (i : ℕ) (to : List ℕ) (ms : List Node)
     (he : Orderly qs ns) (hi : i < length ns) (ht : i < length to) (hr : Refs ns ks i) (c : Copied qs ns ks i to ms) where
   abbrev node : Node
-  node = get_or ns i blank
+  node = get_or ns i blank_node
 
   abbrev new : Node
-  new = rename to (get_or ns i blank)
+  new = rename to (get_or ns i blank_node)
 
   abbrev ms' : List Node
-  ms' = ms ++ rename to (get_or ns i blank) ∷ []
+  ms' = ms ++ rename to (get_or ns i blank_node) ∷ []
 
   abbrev to' : List ℕ
   to' = set to i (length ms)
@@ -76,15 +76,15 @@ module _ (qs : ℕ) (ns : List Node) (ks : List Bool) (i : ℕ) (to : List ℕ) 
       (λ j l e. ap (λ (z : ℕ). formula ms' z) (to_old j l) ∙ formula_keeps ms (new ∷ []) (get_or to j 0) (c.each j l e) ∙ c.same j l e)
       (λ e. ap (λ (z : ℕ). formula ms' z) to_new ∙ formula_new ms new (length ms) refl ∙ same_new)
 
-  renamed_at : (j : ℕ) → j < i + 1 → rename to (get_or ns j blank) ≡ rename to' (get_or ns j blank)
-  renamed_at j l = sym (rename_same to to' (get_or ns j blank)
-      (λ e. to_old (get_or ns j blank).a (omega (arith, names_a qs j (get_or ns j blank) (he j (omega arith)) e)))
-      (λ e. to_old (get_or ns j blank).b (omega (arith, names_b qs j (get_or ns j blank) (he j (omega arith)) e))))
+  renamed_at : (j : ℕ) → j < i + 1 → rename to (get_or ns j blank_node) ≡ rename to' (get_or ns j blank_node)
+  renamed_at j l = sym (rename_same to to' (get_or ns j blank_node)
+      (λ e. to_old (get_or ns j blank_node).a (omega (arith, names_a qs j (get_or ns j blank_node) (he j (omega arith)) e)))
+      (λ e. to_old (get_or ns j blank_node).b (omega (arith, names_b qs j (get_or ns j blank_node) (he j (omega arith)) e))))
 
-  image_more : (j : ℕ) → j < i + 1 → get_or ks j false ≡ true → get_or ms' (get_or to' j 0) blank ≡ rename to' (get_or ns j blank)
-  image_more = below_more (λ j. get_or ks j false ≡ true → get_or ms' (get_or to' j 0) blank ≡ rename to' (get_or ns j blank)) i
-      (λ j l e. ap (λ (z : ℕ). get_or ms' z blank) (to_old j l) ∙ get_or_append_left ms (new ∷ []) blank (get_or to j 0) (c.each j l e) ∙ c.image j l e ∙ renamed_at j (omega arith))
-      (λ e. ap (λ (z : ℕ). get_or ms' z blank) to_new ∙ get_or_push ms new blank (length ms) refl ∙ renamed_at i (omega arith))
+  image_more : (j : ℕ) → j < i + 1 → get_or ks j false ≡ true → get_or ms' (get_or to' j 0) blank_node ≡ rename to' (get_or ns j blank_node)
+  image_more = below_more (λ j. get_or ks j false ≡ true → get_or ms' (get_or to' j 0) blank_node ≡ rename to' (get_or ns j blank_node)) i
+      (λ j l e. ap (λ (z : ℕ). get_or ms' z blank_node) (to_old j l) ∙ get_or_append_left ms (new ∷ []) blank_node (get_or to j 0) (c.each j l e) ∙ c.image j l e ∙ renamed_at j (omega arith))
+      (λ e. ap (λ (z : ℕ). get_or ms' z blank_node) to_new ∙ get_or_push ms new blank_node (length ms) refl ∙ renamed_at i (omega arith))
 
   -- One marked node more.
   pub copied_more : get_or ks i false ≡ true → Copied qs ns ks (i + 1) to' ms'
@@ -125,10 +125,10 @@ module _ (qs : ℕ) (ns : List Node) (root : ℕ) (ks : List Bool) (to : List �
   carried : {j : ℕ} → Reach ns root j → Reach ms (get_or to root 0) (get_or to j 0)
   carried here = here
   carried (by_a {j} p e) =
-      let r = a_is (get_or ns j blank) (get_or ms (get_or to j 0) blank) (c.image j (low p) (kept p)) e in
+      let r = a_is (get_or ns j blank_node) (get_or ms (get_or to j 0) blank_node) (c.image j (low p) (kept p)) e in
       subst (λ z. Reach ms (get_or to root 0) z) r.1 (by_a (carried p) r.0)
   carried (by_b {j} p e) =
-      let r = b_is (get_or ns j blank) (get_or ms (get_or to j 0) blank) (c.image j (low p) (kept p)) e in
+      let r = b_is (get_or ns j blank_node) (get_or ms (get_or to j 0) blank_node) (c.image j (low p) (kept p)) e in
       subst (λ z. Reach ms (get_or to root 0) z) r.1 (by_b (carried p) r.0)
 
   pub pruned : Pruned qs ns root ms
@@ -143,9 +143,9 @@ module _ (qs : ℕ) (ns : List Node) (root : ℕ) (ks : List Bool) (to : List �
 
 -- The same for the items of a vector.
 pub copied_push : (qs : ℕ) (ns : List Node) (ks : List Bool) (i : ℕ) (to : List ℕ) (m : ℕ) (ms after : List Node) (x : Node)
-    → Orderly qs ns → i < length ns → i < length to → Refs ns ks i → get_or ks i false ≡ true → x ≡ rename to (get_or ns i blank)
+    → Orderly qs ns → i < length ns → i < length to → Refs ns ks i → get_or ks i false ≡ true → x ≡ rename to (get_or ns i blank_node)
     → m ≡ length ms → after ≡ ms ++ x ∷ [] → Copied qs ns ks i to ms → Copied qs ns ks (i + 1) (set to i m) after
 copied_push qs ns ks i to m ms after x he hi ht hr hk e d p c =
     subst (λ (z : List Node). Copied qs ns ks (i + 1) (set to i m) z) (sym (p ∙ ap (λ (z : Node). ms ++ z ∷ []) e))
-    (subst (λ (z : ℕ). Copied qs ns ks (i + 1) (set to i z) (ms ++ rename to (get_or ns i blank) ∷ [])) (sym d)
+    (subst (λ (z : ℕ). Copied qs ns ks (i + 1) (set to i z) (ms ++ rename to (get_or ns i blank_node) ∷ [])) (sym d)
     (copied_more qs ns ks i to ms he hi ht hr c hk))

@@ -1,5 +1,5 @@
 -- A refinement's initial states, and the formula that tells them apart.
-use Rattle.std.proofs.Common.{◌≡◌, ℕ, ◌+◌, ◌*◌, ◌<◌, ◌≤◌, Bool, true, false, not, T, eqb, List, [], length, get_or, vec_items, sym, refl, ap, ◌∙◌, subst, arith}
+use Rattle.std.proofs.Common.{◌≡◌, ℕ, ◌+◌, ◌*◌, ◌<◌, ◌≤◌, Bool, true, false, not, T, eqb, List, [], length, get_or, sym, refl, ap, ◌∙◌, subst, arith}
 use Rattle.std.proofs.lemmas.Bool.{eq-eqb, eqb-false, ne_eqb, lt-ltb, le-leb}
 use Rattle.kripke.specs.Structure.{Kripke, Lawful, size}
 use Rattle.kripke.specs.Ctl.{Formula, nesting}
@@ -18,11 +18,11 @@ use Rattle.refine.proofs.Somes.{bools}
 use Rattle.refine.proofs.Orders.{T_and}
 use Rattle.refine.proofs.Rowed.{row_size, table_lawful}
 use Rattle.refine.proofs.Scan.{count_le}
-use Rattle.refine.proofs.Staging.{told_exact}
+use Rattle.refine.proofs.Staging.{test_exact}
 use Rattle.compare.specs.Closing.{level}
 use Rattle.compare.specs.Pruned.{Pruned}
 use Rattle.compare.specs.Kept.{Kept}
-use Rattle.compare.proofs.Rulings.{same_of}
+use Rattle.compare.proofs.Rulings.{same_of, different_T}
 
 module _ (r : Refinement) where
   pub first_lawful : Lawful (questions r) (first r)
@@ -35,10 +35,10 @@ module _ (r : Refinement) where
   one = r.pair.first.initial
 
   abbrev other : ℕ
-  other = length (vec_items r.pair.first.rows) + r.pair.second.initial
+  other = length r.pair.first.rows.items + r.pair.second.initial
 
-  first_size : size (first r) ≡ length (vec_items r.pair.first.rows)
-  first_size = row_size r.pair.first.initial (vec_items r.pair.first.rows)
+  first_size : size (first r) ≡ length r.pair.first.rows.items
+  first_size = row_size r.pair.first.initial r.pair.first.rows.items
 
   pub one_in : one < r.parts.states
   one_in = omega (arith, r.long, first_size, first_lawful.begins)
@@ -68,7 +68,7 @@ module _ (r : Refinement) where
   pub total_few : total (first r) (second r) ≤ 512
   total_few = omega (arith, r.long, r.parts.few)
 
-  pub nodes_few : length (vec_items r.parts.nodes.list) + 3 ≤ 4 * total (first r) (second r)
+  pub nodes_few : length r.parts.nodes.list.items + 3 ≤ 4 * total (first r) (second r)
   nodes_few = omega (arith, r.parts.spare, count_le r.parts, r.long)
 
   pub kept_none : level (first r) (second r) r.rounds ≡ true → (ns : List Node) → ns ≡ [] → Kept r ns
@@ -76,16 +76,17 @@ module _ (r : Refinement) where
     few = omega (arith, first_lawful.some);
     orderly = λ i l. absurd (omega arith);
     useful = λ i l. absurd (omega arith);
+    none = λ d. refl;
     telling = λ d. absurd (d (same_of (first r) (second r) r.rounds e));
   })
 
   module _ (e : level (first r) (second r) r.rounds ≡ false) (ns : List Node)
-      (h : Pruned (questions r) (vec_items r.parts.nodes.list) (get_or r.parts.node (class_of r.parts one) 0) ns) where
+      (h : Pruned (questions r) r.parts.nodes.list.items (get_or r.parts.node (class_of r.parts one) 0) ns) where
     same_root : root ns ≡ class_formula r.parts one
     same_root = h.same
 
     test_at : (s : ℕ) → s < r.parts.states → test (both (first r) (second r)) (root ns) s ≡ eqb (class_of r.parts s) (class_of r.parts one)
-    test_at s l = ap (λ (f : Formula). test (both (first r) (second r)) f s) same_root ∙ told_exact (both (first r) (second r)) r.parts r.told one s one_in l
+    test_at s l = ap (λ (f : Formula). test (both (first r) (second r)) f s) same_root ∙ test_exact (both (first r) (second r)) r.parts r.exact one s one_in l
 
     at_one : test (both (first r) (second r)) (root ns) one ≡ true
     at_one = test_at one one_in ∙ eq-eqb _ _ refl
@@ -103,6 +104,7 @@ module _ (r : Refinement) where
       few = omega (arith, h.few, nodes_few, r.parts.here one one_in);
       orderly = h.orderly;
       useful = λ i l. ∣ h.useful i l ∣₁;
+      none = λ d. absurd (d (different_T (first r) (second r) r.rounds e));
       telling = λ d. T_and _ _
           (T_and _ _ (yes-T _ (lt-ltb 0 (length ns) h.some)) (yes-T _ (le-leb _ _ (subst (λ (f : Formula). nesting f ≤ r.rounds) (sym same_root) (r.shallow one one_in)))))
           (T_and _ _ (yes-T _ at_one) (yes-T _ (ap not at_other)));

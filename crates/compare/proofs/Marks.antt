@@ -2,7 +2,7 @@
 use Rattle.std.proofs.Common.{◌≡◌, ℕ, zero, suc, ◌+◌, ◌<◌, ◌≤◌, Bool, true, false, cond, ◌⊎◌, List, length, get_or, set, replicate, sym, refl, ◌∙◌, subst, inl, inr, Option, MatchOption, arith, get_or-set_other, get_or-set_same}
 use lib.ListN.{length-replicate}
 use native.Mathlib.Decide.{ℕ_discrete}
-use Rattle.kripke.specs.Nodes.{blank}
+use Rattle.kripke.specs.Nodes.{blank_node}
 use Rattle.refine.specs.Growth.{Orderly}
 use Rattle.compare.specs.Pruned.{named}
 use Rattle.compare.specs.Reach.{uses_a, uses_b, Reach, here, by_a, by_b, Refs, Marking}
@@ -65,7 +65,7 @@ marking_start ns root n h =
 
 -- What the node `i` names is marked.
 pub marking_more : (qs : ℕ) (ns : List Node) (root i i' : ℕ) (ks ls os : List Bool) → i' ≡ suc i → Orderly qs ns → i < length ns → get_or ks i false ≡ true
-    → Marks (uses_a (get_or ns i blank)) (get_or ns i blank).a ks ls → Marks (uses_b (get_or ns i blank)) (get_or ns i blank).b ls os
+    → Marks (uses_a (get_or ns i blank_node)) (get_or ns i blank_node).a ks ls → Marks (uses_b (get_or ns i blank_node)) (get_or ns i blank_node).b ls os
     → Marking ns root i' ks → Marking ns root i os
 marking_more qs ns root i i' ks ls os s he hi hk p q m = record {
   top = q.more root (p.more root m.top);
@@ -84,11 +84,11 @@ marking_more qs ns root i i' ks ls os s he hi hk p q m = record {
     ]
   ];
 } where
-  was : (j : ℕ) → get_or os j false ≡ true → (get_or ks j false ≡ true) ⊎ (((uses_a (get_or ns i blank) ≡ true) × ((get_or ns i blank).a ≡ j)) ⊎ ((uses_b (get_or ns i blank) ≡ true) × ((get_or ns i blank).b ≡ j)))
+  was : (j : ℕ) → get_or os j false ≡ true → (get_or ks j false ≡ true) ⊎ (((uses_a (get_or ns i blank_node) ≡ true) × ((get_or ns i blank_node).a ≡ j)) ⊎ ((uses_b (get_or ns i blank_node) ≡ true) × ((get_or ns i blank_node).b ≡ j)))
   was j e = elim (q.only j e) [ inl k ↦ elim (p.only j k) [ inl z ↦ inl z | inr w ↦ inr (inl w) ] | inr w ↦ inr (inr w) ]
 
-  lower : (j : ℕ) → (((uses_a (get_or ns i blank) ≡ true) × ((get_or ns i blank).a ≡ j)) ⊎ ((uses_b (get_or ns i blank) ≡ true) × ((get_or ns i blank).b ≡ j))) → j < i
-  lower j k = elim k [ inl w ↦ omega (arith, names_a qs i (get_or ns i blank) (he i hi) w.0, w.1) | inr w ↦ omega (arith, names_b qs i (get_or ns i blank) (he i hi) w.0, w.1) ]
+  lower : (j : ℕ) → (((uses_a (get_or ns i blank_node) ≡ true) × ((get_or ns i blank_node).a ≡ j)) ⊎ ((uses_b (get_or ns i blank_node) ≡ true) × ((get_or ns i blank_node).b ≡ j))) → j < i
+  lower j k = elim k [ inl w ↦ omega (arith, names_a qs i (get_or ns i blank_node) (he i hi) w.0, w.1) | inr w ↦ omega (arith, names_b qs i (get_or ns i blank_node) (he i hi) w.0, w.1) ]
 
 -- At the end the marked nodes are those that the root reaches.
 pub kept_reach : (ns : List Node) (root : ℕ) (ks : List Bool) → Marking ns root 0 ks → {j : ℕ} → Reach ns root j → get_or ks j false ≡ true
@@ -98,5 +98,5 @@ kept_reach ns root ks m (by_b {j} p e) = (m.closed j (omega arith) (kept_reach n
 
 pub reach_low : (qs : ℕ) (ns : List Node) (root : ℕ) → Orderly qs ns → root < length ns → {j : ℕ} → Reach ns root j → j ≤ root
 reach_low qs ns root he h here = omega arith
-reach_low qs ns root he h (by_a {j} p e) = let l = reach_low qs ns root he h p in omega (arith, names_a qs j (get_or ns j blank) (he j (omega arith)) e)
-reach_low qs ns root he h (by_b {j} p e) = let l = reach_low qs ns root he h p in omega (arith, names_b qs j (get_or ns j blank) (he j (omega arith)) e)
+reach_low qs ns root he h (by_a {j} p e) = let l = reach_low qs ns root he h p in omega (arith, names_a qs j (get_or ns j blank_node) (he j (omega arith)) e)
+reach_low qs ns root he h (by_b {j} p e) = let l = reach_low qs ns root he h p in omega (arith, names_b qs j (get_or ns j blank_node) (he j (omega arith)) e)

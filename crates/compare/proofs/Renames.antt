@@ -1,8 +1,8 @@
 -- Renumbered nodes: what they name, their order, and the formulas that they make.
-use Rattle.std.proofs.Common.{◌≡◌, ℕ, ◌+◌, ◌<◌, ◌≤◌, Bool, true, false, cond, ◌&&◌, T, eqb, ltb, List, length, get_or, vec_items, sym, refl, ap, ◌∙◌, subst, arith}
+use Rattle.std.proofs.Common.{◌≡◌, ℕ, ◌+◌, ◌<◌, ◌≤◌, Bool, true, false, cond, ◌&&◌, T, eqb, ltb, List, length, get_or, sym, refl, ap, ◌∙◌, subst, arith}
 use Rattle.std.proofs.lemmas.Bool.{eq-eqb}
 use Rattle.kripke.specs.Ctl.{Formula, truth, and, EX}
-use Rattle.kripke.specs.Nodes.{made, blank}
+use Rattle.kripke.specs.Nodes.{made, blank_node}
 use Rattle.kripke.specs.declared.node.Node.{Node}
 use Rattle.refine.specs.Growth.{next_node}
 use Rattle.refine.specs.declared.partition.Partition.{Partition}
@@ -42,13 +42,13 @@ pub names_b : (q i : ℕ) (n : Node) → T (next_node q i n) → uses_b n ≡ tr
 names_b q i n h e = low_b q i n (shape q i n h) e
 
 -- The same in a partition, whose nodes fit a table of 2048.
-pub earlier_a : (p : Partition) (i : ℕ) (n : Node) → i < length (vec_items p.nodes.list) → n ≡ get_or (vec_items p.nodes.list) i blank → uses_a n ≡ true → n.a < i
+pub earlier_a : (p : Partition) (i : ℕ) (n : Node) → i < length p.nodes.list.items → n ≡ get_or p.nodes.list.items i blank_node → uses_a n ≡ true → n.a < i
 earlier_a p i n l r e = names_a p.questions i n (subst (λ (m : Node). T (next_node p.questions i m)) (sym r) (p.orderly i l)) e
 
-pub earlier_b : (p : Partition) (i : ℕ) (n : Node) → i < length (vec_items p.nodes.list) → n ≡ get_or (vec_items p.nodes.list) i blank → uses_b n ≡ true → n.b < i
+pub earlier_b : (p : Partition) (i : ℕ) (n : Node) → i < length p.nodes.list.items → n ≡ get_or p.nodes.list.items i blank_node → uses_b n ≡ true → n.b < i
 earlier_b p i n l r e = names_b p.questions i n (subst (λ (m : Node). T (next_node p.questions i m)) (sym r) (p.orderly i l)) e
 
-pub nodes_fit : (p : Partition) → length (vec_items p.nodes.list) + 3 ≤ 2048
+pub nodes_fit : (p : Partition) → length p.nodes.list.items + 3 ≤ 2048
 nodes_fit p = omega (arith, p.spare, count_le p, p.few)
 
 eq_T : (a b : ℕ) → a ≡ b → T (eqb a b)

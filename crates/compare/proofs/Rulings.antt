@@ -3,7 +3,7 @@ use Rattle.std.proofs.Common.{◌≡◌, ℕ, zero, suc, ◌+◌, ◌*◌, ◌<�
 use native.Mathlib.Decide.{ℕ_discrete}
 use Rattle.kripke.specs.Structure.{Kripke, Lawful}
 use Rattle.kripke.specs.Rounds.{Same, Apart, total, ClosedDifferent, ClosedAlike, ClosedAfter, FirstClosed}
-use Rattle.kripke.specs.Refusals.{Before, Clean, First, Rules, number_of}
+use Rattle.kripke.specs.Refusals.{Before, Clean, FirstBreach, Rules, number_of}
 use Rattle.kripke.specs.declared.refusal.Cause.{Cause}
 use Rattle.kripke.specs.declared.refusal.Cause.TheVariants.{ClosedComparison, StateNumber, OpenComparison, NotDifferent, FewPlaces}
 use Rattle.kripke.specs.declared.refusal.Layer.TheVariants as layer
@@ -18,11 +18,11 @@ use Rattle.compare.specs.Answers.{Decides}
 use Rattle.compare.specs.declared.verdict.Outcome.{Outcome}
 use Rattle.compare.specs.declared.verdict.Outcome.TheVariants.{Alike, Different}
 
-pub not_T : (b : Bool) → T (not b) → T b → ⊥
+pub not_T : (b : Bool) → T (not b) → ¬ T b
 not_T true h t = h
 not_T false h t = t
 
-pub no_T : (b : Bool) → b ≡ false → T b → ⊥
+pub no_T : (b : Bool) → b ≡ false → ¬ T b
 no_T b e t = subst T e t
 
 module _ (a b : Kripke) (k : ℕ) where
@@ -41,7 +41,7 @@ rested-T a b zero z = absurd z
 rested-T a b (suc k) z = (settled-T a b k).1 z.0
 
 -- An open comparison: its last round split something, if there was one.
-pub open_moves : (a b : Kripke) (k : ℕ) → (ClosedAfter a b k → ⊥) → rested a b k ≡ false
+pub open_moves : (a b : Kripke) (k : ℕ) → (¬ ClosedAfter a b k) → rested a b k ≡ false
 open_moves a b k h = go (level a b k) (rested a b k) refl refl
   where
     go : (l r : Bool) → level a b k ≡ l → rested a b k ≡ r → rested a b k ≡ false
@@ -55,17 +55,17 @@ reached_none a b k e f (inr z) = no_T _ f (rested-T a b k z)
 
 -- Open after every number of rounds below k.
 abbrev pub Fresh : Kripke → Kripke → ℕ → Type 0
-Fresh a b k = (j : ℕ) → j < k → ClosedAfter a b j → ⊥
+Fresh a b k = (j : ℕ) → j < k → ¬ ClosedAfter a b j
 
-pub fresh_more : (a b : Kripke) (k : ℕ) → Fresh a b k → (ClosedAfter a b k → ⊥) → Fresh a b (suc k)
+pub fresh_more : (a b : Kripke) (k : ℕ) → Fresh a b k → (¬ ClosedAfter a b k) → Fresh a b (suc k)
 fresh_more a b k h e j l = elim (ℕ_discrete j k) [
-  | yes z ↦ subst (λ (i : ℕ). ClosedAfter a b i → ⊥) (sym z) e
+  | yes z ↦ subst (λ (i : ℕ). ¬ ClosedAfter a b i) (sym z) e
   | no z ↦ h j (omega arith)
 ]
 
 module _ (q : ℕ) (a b : Kripke) (la : Lawful q a) (lb : Lawful q b) where
   -- An open comparison has had fewer rounds than there are states, and so any one no more.
-  pub open_soon : (k : ℕ) → Fresh a b k → (ClosedAfter a b k → ⊥) → suc k ≤ total a b
+  pub open_soon : (k : ℕ) → Fresh a b k → (¬ ClosedAfter a b k) → suc k ≤ total a b
   open_soon k h e = still_open q a b la lb k (λ j l. fresh_more a b k h e j (omega arith))
 
   pub fresh_soon : (k : ℕ) → Fresh a b k → k ≤ total a b
@@ -88,7 +88,7 @@ module _ (q : ℕ) (a b : Kripke) (la : Lawful q a) (lb : Lawful q b) where
 
   decides_alike : (k : ℕ) → Fresh a b k → ClosedAlike a b k → Decides a b k (record { rounds = k; outcome = Alike })
   decides_alike k h r =
-      let x : Apart a b a.initial b.initial → ⊥ = alike_agree q a b la lb k r in
+      let x : ¬ Apart a b a.initial b.initial = alike_agree q a b la lb k r in
       record {
         rounds = refl;
         soon = fresh_soon k h;
@@ -107,10 +107,10 @@ reached_closed a b k Alike r = inr r
 
 -- The refusal of the one breach that there can be.
 refused : (V : Rules) (c : Cause) (p : ℕ) → ((d : Cause) (q : ℕ) → V d q → (d ≡ c) × (q ≡ p)) → V c p
-    → (e : Refusal) → e ≡ record { cause = c; layer = layer.Comparison; place = p } → First V layer.Comparison e
-refused V c p one b e is = subst (λ (z : Refusal). First V layer.Comparison z) (sym is) (record { broken = b; least = least; layered = refl })
+    → (e : Refusal) → e ≡ record { cause = c; layer = layer.Comparison; place = p } → FirstBreach V layer.Comparison e
+refused V c p one b e is = subst (λ (z : Refusal). FirstBreach V layer.Comparison z) (sym is) (record { broken = b; least = least; layered = refl })
   where
-    least : (d : Cause) (q : ℕ) → Before d q c p → V d q → ⊥
+    least : (d : Cause) (q : ℕ) → Before d q c p → ¬ V d q
     least d q (inl l) v = omega (arith, l, ap number_of (one d q v).0)
     least d q (inr l) v = omega (arith, l.1, (one d q v).1)
 
@@ -119,17 +119,17 @@ module _ (a b : Kripke) (k : ℕ) where
   round_one _ _ (breach.closed z) = (refl, refl)
 
   pub round_refused : ClosedAfter a b k → (e : Refusal) → e ≡ record { cause = ClosedComparison; layer = layer.Comparison; place = k }
-      → First (RoundBreach a b k) layer.Comparison e
+      → FirstBreach (RoundBreach a b k) layer.Comparison e
   round_refused z = refused (RoundBreach a b k) _ _ round_one (breach.closed z)
 
-  pub round_clean : (ClosedAfter a b k → ⊥) → Clean (RoundBreach a b k)
+  pub round_clean : (¬ ClosedAfter a b k) → Clean (RoundBreach a b k)
   round_clean h _ _ (breach.closed z) = h z
 
   verdict_one : (d : Cause) (p : ℕ) → VerdictBreach a b k d p → (d ≡ OpenComparison) × (p ≡ k)
   verdict_one _ _ (unclosed z) = (refl, refl)
 
-  pub verdict_refused : (ClosedAfter a b k → ⊥) → (e : Refusal) → e ≡ record { cause = OpenComparison; layer = layer.Comparison; place = k }
-      → First (VerdictBreach a b k) layer.Comparison e
+  pub verdict_refused : (¬ ClosedAfter a b k) → (e : Refusal) → e ≡ record { cause = OpenComparison; layer = layer.Comparison; place = k }
+      → FirstBreach (VerdictBreach a b k) layer.Comparison e
   verdict_refused z = refused (VerdictBreach a b k) _ _ verdict_one (unclosed z)
 
   pub verdict_clean : ClosedAfter a b k → Clean (VerdictBreach a b k)
@@ -139,7 +139,7 @@ module _ (a b : Kripke) (k : ℕ) where
   table_one _ _ (undivided z) = (refl, refl)
 
   pub table_refused : level a b k ≡ true → (e : Refusal) → e ≡ record { cause = NotDifferent; layer = layer.Comparison; place = k }
-      → First (TableBreach a b k) layer.Comparison e
+      → FirstBreach (TableBreach a b k) layer.Comparison e
   table_refused e = refused (TableBreach a b k) _ _ table_one (undivided (λ d. d (same_of a b k e)))
 
   pub table_clean : level a b k ≡ false → Clean (TableBreach a b k)
@@ -150,7 +150,7 @@ module _ (a b : Kripke) (i : ℕ) where
   class_one _ _ (beyond z) = (refl, refl)
 
   pub class_refused : total a b ≤ i → (e : Refusal) → e ≡ record { cause = StateNumber; layer = layer.Comparison; place = i }
-      → First (ClassBreach a b i) layer.Comparison e
+      → FirstBreach (ClassBreach a b i) layer.Comparison e
   class_refused h = refused (ClassBreach a b i) _ _ class_one (beyond h)
 
   pub class_clean : i < total a b → Clean (ClassBreach a b i)
@@ -160,24 +160,24 @@ module _ (a b : Kripke) (k places : ℕ) where
   formula_broken : (c : Cause) (p : ℕ) → TableBreach a b k c p → FormulaBreach a b k places c p
   formula_broken _ _ (undivided z) = no_difference z
 
-  formula_least : (c : Cause) (p : ℕ) → TableBreach a b k c p → ((d : Cause) (q : ℕ) → Before d q c p → TableBreach a b k d q → ⊥)
-      → (d : Cause) (q : ℕ) → Before d q c p → FormulaBreach a b k places d q → ⊥
+  formula_least : (c : Cause) (p : ℕ) → TableBreach a b k c p → ((d : Cause) (q : ℕ) → Before d q c p → ¬ TableBreach a b k d q)
+      → (d : Cause) (q : ℕ) → Before d q c p → ¬ FormulaBreach a b k places d q
   formula_least _ _ t h d q l (no_difference z) = h d q l (undivided z)
   formula_least _ _ (undivided y) h d q (inl l) (few z) = omega arith
   formula_least _ _ (undivided y) h d q (inr l) (few z) = omega (arith, l.0)
 
   -- Where the table is refused, so is the formula.
-  pub formula_refused : (e : Refusal) → First (TableBreach a b k) layer.Comparison e → First (FormulaBreach a b k places) layer.Comparison e
+  pub formula_refused : (e : Refusal) → FirstBreach (TableBreach a b k) layer.Comparison e → FirstBreach (FormulaBreach a b k places) layer.Comparison e
   formula_refused e h = record { broken = formula_broken _ _ h.broken; least = formula_least _ _ h.broken h.least; layered = h.layered }
 
-  places_least : Clean (TableBreach a b k) → (d : Cause) (p : ℕ) → Before d p FewPlaces places → FormulaBreach a b k places d p → ⊥
+  places_least : Clean (TableBreach a b k) → (d : Cause) (p : ℕ) → Before d p FewPlaces places → ¬ FormulaBreach a b k places d p
   places_least h _ _ l (no_difference z) = h _ _ (undivided z)
   places_least h _ _ (inl l) (few z) = omega arith
   places_least h _ _ (inr l) (few z) = omega (arith, l.1)
 
   pub places_refused : Clean (TableBreach a b k) → places + 3 < 4 * total a b
-      → (e : Refusal) → e ≡ record { cause = FewPlaces; layer = layer.Comparison; place = places } → First (FormulaBreach a b k places) layer.Comparison e
-  places_refused h l e is = subst (λ (z : Refusal). First (FormulaBreach a b k places) layer.Comparison z) (sym is)
+      → (e : Refusal) → e ≡ record { cause = FewPlaces; layer = layer.Comparison; place = places } → FirstBreach (FormulaBreach a b k places) layer.Comparison e
+  places_refused h l e is = subst (λ (z : Refusal). FirstBreach (FormulaBreach a b k places) layer.Comparison z) (sym is)
       (record { broken = few l; least = places_least h; layered = refl })
 
   pub formula_clean : Clean (TableBreach a b k) → 4 * total a b ≤ places + 3 → Clean (FormulaBreach a b k places)

@@ -3,7 +3,7 @@ use Rattle.std.proofs.Common.{◌≡◌, ℕ, ◌+◌, ◌-◌, ◌<◌, ◌≤�
 use Rattle.std.proofs.lemmas.Bool.{leb-true, ltb-true}
 use Rattle.kripke.specs.Structure.{Member, size}
 use Rattle.kripke.specs.Ctl.{Formula, Holds, NextOnly, nesting}
-use Rattle.kripke.specs.Nodes.{blank, root}
+use Rattle.kripke.specs.Nodes.{blank_node, root}
 use Rattle.kripke.specs.Rounds.{Separates, total}
 use Rattle.kripke.specs.Union.{both}
 use Rattle.kripke.specs.declared.node.Node.{Node}
@@ -29,14 +29,14 @@ coded q i n (joins c a b) = inr (inr (inr (inl c)))
 coded q i n (steps c a b) = inr (inr (inr (inr (inl c))))
 
 module _ (c : Comparison) (e : level (first c) (second c) (rounds c) ≡ false) where
-  told : T (tells (first c) (second c) (rounds c) (table c))
-  told = c.kept.telling (different_T (first c) (second c) (rounds c) e)
+  tells_apart : T (tells (first c) (second c) (rounds c) (table c))
+  tells_apart = c.kept.telling (different_T (first c) (second c) (rounds c) e)
 
   sized : T (ltb 0 (length (table c)) && leb (nesting (root (table c))) (rounds c))
-  sized = (and_T _ _ told).0
+  sized = (and_T _ _ tells_apart).0
 
   tested : T (test (both (first c) (second c)) (root (table c)) (first c).initial && not (test (both (first c) (second c)) (root (table c)) (size (first c) + (second c).initial)))
-  tested = (and_T _ _ told).1
+  tested = (and_T _ _ tells_apart).1
 
   some : 1 ≤ length (table c)
   some = ltb-true 0 (length (table c)) (T-yes _ (and_T _ _ sized).0)
@@ -62,7 +62,7 @@ module _ (c : Comparison) (e : level (first c) (second c) (rounds c) ≡ false) 
       ((both_holds (first c) (second c) (first_lawful c.stages).closed (second_lawful c.stages).closed (root (table c)) (first c).initial one_in).1
       ((whole (first c).initial one_in).0 (and_T _ _ tested).0))
 
-  there : Holds (second c) (root (table c)) (second c).initial → ⊥
+  there : ¬ Holds (second c) (root (table c)) (second c).initial
   there h =
       let j : ℕ = size (first c) + (second c).initial in
       let z : size (first c) + (second c).initial - size (first c) ≡ (second c).initial = omega arith in
@@ -79,7 +79,7 @@ module _ (c : Comparison) (e : level (first c) (second c) (rounds c) ≡ false) 
     some = some;
     few = c.kept.few;
     well_formed = well_formed (questions c) (table c) c.kept.orderly;
-    next_only = λ i l. coded (questions c) i (get_or (table c) i blank) (shape (questions c) i (get_or (table c) i blank) (c.kept.orderly i l));
+    next_only = λ i l. coded (questions c) i (get_or (table c) i blank_node) (shape (questions c) i (get_or (table c) i blank_node) (c.kept.orderly i l));
     useful = c.kept.useful;
     nests = omega (arith, shallow, least (root (table c)) plain (inl (here, there)));
     here = here;

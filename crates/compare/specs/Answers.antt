@@ -2,7 +2,7 @@
 use Rattle.std.specs.Prelude.{◌≡◌, ℕ, ◌+◌, ◌-◌, ◌*◌, ◌<◌, ◌≤◌, ◌↔◌, List, [], ◌∷◌, length, slice_index_or}
 use Rattle.kripke.specs.Structure.{Kripke, Member}
 use Rattle.kripke.specs.Ctl.{Formula, Holds, NextOnly, nesting}
-use Rattle.kripke.specs.Nodes.{WellFormed, blank, root}
+use Rattle.kripke.specs.Nodes.{WellFormed, blank_node, root}
 use Rattle.kripke.specs.Rounds.{Separates, Apart, Inseparable, total}
 use Rattle.kripke.specs.declared.node.Node.{Node}
 use Rattle.compare.specs.Reach.{Reach}
@@ -20,7 +20,7 @@ pub record ClassNumber (a b : Kripke) (k i c : ℕ) : Type 0 where
 pub record Decides (a b : Kripke) (k : ℕ) (v : Verdict) : Type 0 where
   pub rounds : v.rounds ≡ k
   pub soon : k ≤ total a b
-  pub alike : (v.outcome ≡ Alike) ↔ (Apart a b a.initial b.initial → ⊥)
+  pub alike : (v.outcome ≡ Alike) ↔ ¬ Apart a b a.initial b.initial
   pub different : (v.outcome ≡ Different) ↔ Apart a b a.initial b.initial
 
 -- The codes of true, a question, not, and, EX.
@@ -33,9 +33,9 @@ pub record Separating (a b : Kripke) (q k : ℕ) (ns : List Node) : Type 0 where
   pub some : 1 ≤ length ns
   pub few : length ns + 3 ≤ 4 * total a b
   pub well_formed : WellFormed q ns
-  pub next_only : (i : ℕ) → i < length ns → Member (slice_index_or ns i blank).code next_codes
+  pub next_only : (i : ℕ) → i < length ns → Member (slice_index_or ns i blank_node).code next_codes
   pub useful : (i : ℕ) → i < length ns → ∥ Reach ns (length ns - 1) i ∥₁
   pub nests : nesting (root ns) ≡ k
   pub here : Holds a (root ns) a.initial
-  pub there : Holds b (root ns) b.initial → ⊥
+  pub there : ¬ Holds b (root ns) b.initial
   pub least : (f : Formula) → NextOnly f → Separates a b a.initial b.initial f → k ≤ nesting f

@@ -15,13 +15,13 @@ pub data ClassBreach (a b : Kripke) (i : ℕ) : Cause → ℕ → Type 0 where
 
 -- The verdict of a comparison that is still open.
 pub data VerdictBreach (a b : Kripke) (k : ℕ) : Cause → ℕ → Type 0 where
-  unclosed : (ClosedAfter a b k → ⊥) → VerdictBreach a b k OpenComparison k
+  unclosed : ¬ ClosedAfter a b k → VerdictBreach a b k OpenComparison k
 
 -- The table of a comparison that is not closed as different.
 pub data TableBreach (a b : Kripke) (k : ℕ) : Cause → ℕ → Type 0 where
-  undivided : (ClosedDifferent a b k → ⊥) → TableBreach a b k NotDifferent k
+  undivided : ¬ ClosedDifferent a b k → TableBreach a b k NotDifferent k
 
 -- The formula of a comparison that is not closed as different; fewer than 4 N - 3 places for it.
 pub data FormulaBreach (a b : Kripke) (k places : ℕ) : Cause → ℕ → Type 0 where
-  no_difference : (ClosedDifferent a b k → ⊥) → FormulaBreach a b k places NotDifferent k
+  no_difference : ¬ ClosedDifferent a b k → FormulaBreach a b k places NotDifferent k
   few : places + 3 < 4 * total a b → FormulaBreach a b k places FewPlaces places

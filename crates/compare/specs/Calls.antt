@@ -1,5 +1,5 @@
 -- The comparison as its calls see it: two structures, their questions, the accepted rounds; and what a call does.
-use Rattle.std.specs.Prelude.{◌≡◌, ℕ, suc, ◌≤◌, List, length, take, drop, vec_items}
+use Rattle.std.specs.Prelude.{◌≡◌, ℕ, suc, ◌≤◌, List, length, take, drop}
 use Rattle.kripke.specs.Structure.{Kripke}
 use Rattle.kripke.specs.Rounds.{total}
 use Rattle.kripke.specs.Classes.{Classes}
@@ -22,7 +22,7 @@ rounds c = c.stages.rounds
 
 -- The table of the kept formula: a table reading lends it, and a formula reading copies it out.
 abbrev pub table : Comparison → List Node
-table c = vec_items c.formula.list
+table c = c.formula.list.items
 
 -- Two models with q questions, and no round yet.
 pub record Opened (q : ℕ) (a b : Kripke) (c : Comparison) : Type 0 where
@@ -32,14 +32,14 @@ pub record Opened (q : ℕ) (a b : Kripke) (c : Comparison) : Type 0 where
   pub none : rounds c ≡ 0
 
 -- The comparison is of the same structures.
-pub record Same (c d : Comparison) : Type 0 where
+pub record SameModels (c d : Comparison) : Type 0 where
   pub first_is : first d ≡ first c
   pub second_is : second d ≡ second c
   pub questions_is : questions d ≡ questions c
 
 -- An accepted round: one more, never more than there are states; it leaves n classes.
 pub record Rounded (c d : Comparison) (n : ℕ) : Type 0 where
-  pub same : Same c d
+  pub same : SameModels c d
   pub one_more : rounds d ≡ suc (rounds c)
   pub soon : suc (rounds c) ≤ total (first c) (second c)
   pub classes : Classes (first c) (second c) (suc (rounds c)) n

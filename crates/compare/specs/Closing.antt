@@ -19,7 +19,7 @@ level a b k = same a b k a.initial b.initial
 abbrev pub Reached : Kripke → Kripke → ℕ → Option Outcome → Type 0
 Reached a b k (Some Different) = ClosedDifferent a b k
 Reached a b k (Some Alike) = ClosedAlike a b k
-Reached a b k None = ClosedAfter a b k → ⊥
+Reached a b k None = ¬ ClosedAfter a b k
 
 -- The table's root holds at the first initial state, fails at the second, and nests at most k deep.
 abbrev pub tells : Kripke → Kripke → ℕ → List Node → Bool

@@ -1,5 +1,5 @@
--- The table that is kept with a refinement: in order, with every node a part of the root; once closed as different it tells the initial states apart.
-use Rattle.std.specs.Prelude.{ℕ, ◌+◌, ◌-◌, ◌*◌, ◌<◌, ◌≤◌, T, List, length}
+-- The table that is kept with a refinement: once closed as different it tells the initial states apart, in order and with every node a part of the root; else it is empty.
+use Rattle.std.specs.Prelude.{◌≡◌, ℕ, ◌+◌, ◌-◌, ◌*◌, ◌<◌, ◌≤◌, T, List, length}
 use Rattle.kripke.specs.Rounds.{total, ClosedDifferent}
 use Rattle.kripke.specs.declared.node.Node.{Node}
 use Rattle.refine.specs.Growth.{Orderly}
@@ -12,4 +12,5 @@ pub record Kept (r : Refinement) (ns : List Node) : Type 0 where
   pub few : length ns + 3 ≤ 4 * total (first r) (second r)
   pub orderly : Orderly (questions r) ns
   pub useful : (i : ℕ) → i < length ns → ∥ Reach ns (length ns - 1) i ∥₁
+  pub none : ¬ ClosedDifferent (first r) (second r) r.rounds → length ns ≡ 0
   pub telling : ClosedDifferent (first r) (second r) r.rounds → T (tells (first r) (second r) r.rounds ns)

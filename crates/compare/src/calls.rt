@@ -1,7 +1,7 @@
 ghost use Rattle.compare.specs.Answers.{ClassNumber, Decides};
-ghost use Rattle.std.specs.Prelude.{◌≡◌, IfOk};
+ghost use Rattle.std.specs.Prelude.{◌≡◌};
 ghost use Rattle.compare.specs.Breaches.{ClassBreach, RoundBreach, VerdictBreach};
-ghost use Rattle.compare.specs.Calls.{Opened, Rounded, Same, first, rounds, second};
+ghost use Rattle.compare.specs.Calls.{Opened, Rounded, SameModels, first, rounds, second};
 ghost use Rattle.compare.specs.Closing.{Reached};
 ghost use Rattle.kripke.specs.Refusals.{Judged};
 ghost use Rattle.kripke.specs.Rounds.{ClosedAfter, FirstClosed};
@@ -15,21 +15,19 @@ use kripke::model::Model;
 use kripke::refusal::{Cause, Layer, Refusal};
 use refine::nodes::Nodes;
 use refine::refinement::Refinement;
-use std::alloc::{AllocError, Global};
 
 impl Comparison {
-    // Opens the comparison of two models of one label kind. It refuses nothing: want of memory is its only error.
+    /// Opens the comparison of two models of one label kind: no round is accepted yet, and it may be closed as different at once. It cannot fail.
     pub fn open<L: Label, M: Model<Label = L>, N: Model<Label = L>>(
-        heap: Global,
         first: &M,
         second: &N,
-    ) -> Result<Comparison, AllocError>
-        ensures { IfOk result (λ c. Opened L.Label.count (M.Model.meaning first.now) (N.Model.meaning second.now) c) }
+    ) -> Comparison
+        ensures { Opened L.Label.count (M.Model.meaning first.now) (N.Model.meaning second.now) result }
     {
-        let stages = Refinement::open(heap, first, second)?;
-        let mut formula = Nodes::with_room(heap)?;
+        let stages = Refinement::open(first, second);
+        let mut formula = Nodes::new();
         keep(&stages, &mut formula);
-        Ok(Comparison { stages, formula })
+        Comparison { stages, formula }
     }
 
     // The outcome by the closing rule; none while the comparison is open.
@@ -47,7 +45,7 @@ impl Comparison {
 
     // One round of an open comparison; how many classes it leaves.
     fn advance(&mut self) -> usize
-        requires { ClosedAfter (first self.old) (second self.old) (rounds self.old) → ⊥ }
+        requires { ¬ ClosedAfter (first self.old) (second self.old) (rounds self.old) }
         ensures { Rounded self.old self.new result }
     {
         let count = self.stages.round();
@@ -55,10 +53,16 @@ impl Comparison {
         count
     }
 
-    // One round; how many classes it leaves. Refused when the comparison is closed.
+    /// One round; how many classes it leaves. A comparison accepts no more rounds than both models have states.
+    ///
+    /// Refuses with 17 when the comparison is closed, at the accepted rounds.
     pub fn round(&mut self) -> Result<usize, Refusal>
-        ensures { Judged (RoundBreach (first self.old) (second self.old) (rounds self.old)) layer.Comparison
-            (Rounded self.old self.new) (self.new ≡ self.old) result }
+        ensures { Judged result record {
+          breaches = RoundBreach (first self.old) (second self.old) (rounds self.old);
+          layer = layer.Comparison;
+          accepted = Rounded self.old self.new;
+          refused = self.new ≡ self.old;
+        } }
     {
         match self.outcome() {
             None => Ok(self.advance()),
@@ -66,9 +70,9 @@ impl Comparison {
         }
     }
 
-    // Makes rounds until the comparison is closed, which is after no more of them than there are states.
+    /// Makes rounds until the comparison is closed, which is after no more of them than both models have states. A closed comparison stays as it is.
     pub fn close(&mut self)
-        ensures same { Same self.old self.new }
+        ensures same { SameModels self.old self.new }
         ensures still { ClosedAfter (first self.old) (second self.old) (rounds self.old) → self.new ≡ self.old }
         ensures closed { FirstClosed (first self.new) (second self.new) (rounds self.new) }
     {
@@ -77,10 +81,17 @@ impl Comparison {
         }
     }
 
-    // The class of state i: its least number. Refused when there is no state i.
+    /// The class of state `i`: the least number of a state that no next-only formula, nesting no deeper than the accepted rounds, separates from it.
+    /// The states of both models are numbered through from 0, those of the second after those of the first.
+    ///
+    /// Refuses with 18 when there is no state `i`, at that number.
     pub fn class(&self, i: usize) -> Result<usize, Refusal>
-        ensures { Judged (ClassBreach (first self.now) (second self.now) i) layer.Comparison
-            (ClassNumber (first self.now) (second self.now) (rounds self.now) i) (Unit {0}) result }
+        ensures { Judged result record {
+          breaches = ClassBreach (first self.now) (second self.now) i;
+          layer = layer.Comparison;
+          accepted = ClassNumber (first self.now) (second self.now) (rounds self.now) i;
+          refused = Unit {0};
+        } }
     {
         if i >= self.stages.parts.states as usize {
             return Err(Layer::Comparison.refusal(Cause::StateNumber, i));
@@ -88,10 +99,16 @@ impl Comparison {
         Ok(self.stages.parts.class[i] as usize)
     }
 
-    // Alike or different, after how many rounds. Refused while the comparison is open.
+    /// Alike or different, after how many rounds: alike exactly when no CTL formula of any size separates the initial states.
+    ///
+    /// Refuses with 19 while the comparison is open, at the accepted rounds.
     pub fn verdict(&self) -> Result<Verdict, Refusal>
-        ensures { Judged (VerdictBreach (first self.now) (second self.now) (rounds self.now)) layer.Comparison
-            (Decides (first self.now) (second self.now) (rounds self.now)) (Unit {0}) result }
+        ensures { Judged result record {
+          breaches = VerdictBreach (first self.now) (second self.now) (rounds self.now);
+          layer = layer.Comparison;
+          accepted = Decides (first self.now) (second self.now) (rounds self.now);
+          refused = Unit {0};
+        } }
     {
         let rounds = self.stages.rounds;
         match self.outcome() {

@@ -6,13 +6,16 @@ ghost use Rattle.refine.specs.Refinements.{first, second};
 use refine::nodes::Nodes;
 use refine::refinement::Refinement;
 
-// A comparison of two models. It was open after every number of rounds before the present one.
+/// A comparison of two models of one label kind, after some accepted rounds. docs/LOGIC.md has the rounds, the classes and the closing rule.
+///
+/// It keeps its own copy of what the models mean, and was open after every number of rounds before the present one. Its calls refuse in layer 6 (docs/REFUSALS.md),
+/// change nothing then, and allocate nothing. It takes about 100 KB and is returned by value: docs/PERFORMANCE.md says what stack that wants.
 #[derive(Drop)]
 pub struct Comparison {
     pub(crate) stages: Refinement,
     // Once it is closed as different: the nodes of a formula that tells the models apart.
-    // Before, no node, and not an option: the room is reserved at the opening, so that no round asks for memory.
+    // Before, no node, and not an option: the room is part of the comparison.
     pub(crate) formula: Nodes,
-    ghost open: { (j : ℕ) → j < stages.rounds → ClosedAfter (first stages) (second stages) j → ⊥ },
+    ghost open: { (j : ℕ) → j < stages.rounds → ¬ ClosedAfter (first stages) (second stages) j },
     ghost kept: { Kept stages formula.list.items },
 }

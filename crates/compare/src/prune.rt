@@ -84,7 +84,7 @@ fn copy(parts: &Partition, root: usize, reached: &[bool; 2048], out: &mut Nodes)
     for i in 0..root + 1 {
         if reached[i] {
             let m = out.list.len() as u16;
-            out.list.push_reserved(renamed(parts.nodes.list[i], &to));
+            out.list.push(renamed(parts.nodes.list[i], &to));
             to[i] = m;
         }
     }

@@ -11,11 +11,17 @@ use kripke::node::Node;
 use kripke::refusal::{Cause, Layer, Refusal};
 
 impl Comparison {
-    // The nodes of a formula of least nesting that holds at the first model and fails at the second, 2045 at most.
-    // Refused unless the comparison is closed as different.
+    /// The nodes of a formula of least nesting that holds at the initial state of the first model and fails at that of the second: next-only, in order, every node a part of the root,
+    /// 1 to 4 N - 3 of them for N states in both models, so 2,045 at most.
+    ///
+    /// Refuses with 20 unless the comparison is closed as different, at the accepted rounds.
     pub fn table(&self) -> Result<&[Node], Refusal>
-        ensures { Judged (TableBreach (first self.now) (second self.now) (rounds self.now)) layer.Comparison
-            (λ nodes. Lent self.now nodes.now) (Unit {0}) result }
+        ensures { Judged result record {
+          breaches = TableBreach (first self.now) (second self.now) (rounds self.now);
+          layer = layer.Comparison;
+          accepted = λ nodes. Lent self.now nodes.now;
+          refused = Unit {0};
+        } }
     {
         if !differs(&self.stages) {
             return Err(Layer::Comparison.refusal(Cause::NotDifferent, self.stages.rounds));
@@ -31,9 +37,13 @@ impl Comparison {
     }
 
     // The same nodes, where so many places are enough for them.
-    pub(crate) fn told(&self, places: usize) -> Result<&[Node], Refusal>
-        ensures { Judged (FormulaBreach (first self.now) (second self.now) (rounds self.now) places) layer.Comparison
-            (λ nodes. Lent self.now nodes.now × length nodes.now ≤ places) (Unit {0}) result }
+    pub(crate) fn table_for(&self, places: usize) -> Result<&[Node], Refusal>
+        ensures { Judged result record {
+          breaches = FormulaBreach (first self.now) (second self.now) (rounds self.now) places;
+          layer = layer.Comparison;
+          accepted = λ nodes. Lent self.now nodes.now × length nodes.now ≤ places;
+          refused = Unit {0};
+        } }
     {
         let nodes = self.table()?;
         if places < self.enough() {
@@ -42,13 +52,20 @@ impl Comparison {
         Ok(nodes)
     }
 
-    // Writes a formula of least nesting that holds at the first model and fails at the second; how many nodes it has.
-    // Refused unless the comparison is closed as different and there are 4 N - 3 places.
+    /// Writes the nodes that `table` lends to the first places; how many they are. The rest of the places stays as it was.
+    ///
+    /// Refuses, with all places as they were:
+    /// - 20 unless the comparison is closed as different, at the accepted rounds;
+    /// - 21 where there are fewer than 4 N - 3 places for N states in both models, at their number.
     pub fn formula(&self, places: &mut [Node]) -> Result<usize, Refusal>
-        ensures { Judged (FormulaBreach (first self.now) (second self.now) (rounds self.now) (length places.old)) layer.Comparison
-            (Written self.now places.old places.new) (places.new ≡ places.old) result }
+        ensures { Judged result record {
+          breaches = FormulaBreach (first self.now) (second self.now) (rounds self.now) (length places.old);
+          layer = layer.Comparison;
+          accepted = Written self.now places.old places.new;
+          refused = places.new ≡ places.old;
+        } }
     {
-        let nodes = self.told(places.len())?;
+        let nodes = self.table_for(places.len())?;
         places[..nodes.len()].copy_from_slice(nodes);
         Ok(nodes.len())
     }

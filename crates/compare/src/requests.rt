@@ -1,20 +1,27 @@
 use crate::verdict::Verdict;
-use kripke::node::Node;
 
-// What a comparison is asked: a round, the class of a state, the verdict, the formula into so many places.
+/// What a comparison is asked. Any request may be made at any time; one out of place gets its refusal.
 #[derive(Clone, Copy, PartialEq, Eq, Debug)]
 pub enum Request {
+    /// One round.
     Round,
+    /// The class of the state with this number.
     Class(usize),
+    /// The verdict.
     Verdict,
+    /// The formula, into so many places.
     Formula(usize),
 }
 
-// What it answers: the number of classes, a class, the verdict, a formula's nodes.
-#[derive(PartialEq, Eq, Debug, Drop)]
+/// What it answers, where the request is not refused.
+#[derive(Clone, Copy, PartialEq, Eq, Debug)]
 pub enum Answer {
+    /// How many classes the round leaves.
     Round(usize),
+    /// The least number of a state in the class.
     Class(usize),
+    /// The verdict.
     Verdict(Verdict),
-    Formula(Vec<Node>),
+    /// How many nodes the formula has. The nodes are those that the comparison lends as its table.
+    Formula(usize),
 }

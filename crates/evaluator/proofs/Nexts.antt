@@ -25,7 +25,7 @@ module _ (k : Kripke) (law : Closed k) (f : ℕ → Bool) where
       let (p, way, e) = through k law s u h m in
       (p, way, ap f e ∙ hu)
 
-  next_no : (e : Quantifier) (s : ℕ) → s < size k → steps e f (successors k s) ≡ false → Paths k (dual e) s (λ p. Next (Marked f) p → ⊥)
+  next_no : (e : Quantifier) (s : ℕ) → s < size k → steps e f (successors k s) ≡ false → Paths k (dual e) s (λ p. ¬ Next (Marked f) p)
   next_no quantifier.ForAll s h off =
       let (u, m, hu) = every_no f (successors k s) off in
       let (p, way, e) = through k law s u h m in

@@ -20,7 +20,7 @@ swapped false false = refl
 same_place : (s t : ℕ) → t / 64 ≡ s / 64 → eqb (t % 64) (s % 64) ≡ eqb t s
 same_place s t e = ⊎_elim
     (λ (q : t ≡ s). eq-eqb (t % 64) (s % 64) (ap (λ (x : ℕ). x % 64) q) ∙ sym (eq-eqb t s q))
-    (λ (ne : t ≡ s → ⊥). ne_eqb (t % 64) (s % 64) (λ q. ne (omega arith)) ∙ sym (ne_eqb t s ne))
+    (λ (ne : ¬ t ≡ s). ne_eqb (t % 64) (s % 64) (λ q. ne (omega arith)) ∙ sym (ne_eqb t s ne))
     (cases_eq t s)
 
 -- The row after `row[s / 64] |= 1 << (s % 64)`.
@@ -36,7 +36,7 @@ marked_row ws s four hs t ht =
     ∙ or_bit w (2 ^ (s % 64)) (t % 64) ∙ swapped (bit w (t % 64)) (bit (2 ^ (s % 64)) (t % 64))
     ∙ ap (λ (b : Bool). b || bit w (t % 64)) (power_bit (t % 64) (s % 64) ∙ same_place s t e)
     ∙ ap (λ (x : ℕ). eqb t s || bit (get_or ws x 0) (t % 64)) (sym e))
-    (λ (ne : t / 64 ≡ s / 64 → ⊥).
+    (λ (ne : ¬ t / 64 ≡ s / 64).
     ap (λ (x : ℕ). bit x (t % 64)) (get_or-set_other ws (s / 64) (t / 64) v 0 ne)
     ∙ ap (λ (b : Bool). b || marks ws t) (sym (ne_eqb t s (λ same. ne (ap (λ (x : ℕ). x / 64) same)))))
     (cases_eq (t / 64) (s / 64))

@@ -44,7 +44,7 @@ module _ (k : Kripke) (law : Closed k) (f g : ℕ → Bool) where
   module _ (q : ℕ → Bool) (above : (t : ℕ) → t < size k → g t ≡ true → q t ≡ true) where
     -- On a path from an unmarked state no place comes to g by way of f.
     some_out : Still k quantifier.Exists f q → (n s : ℕ) → s < size k → q s ≡ false → (p : ℕ → ℕ) → Path k s p → g (p n) ≡ true
-        → ((i : ℕ) → i < n → f (p i) ≡ true) → ⊥
+        → ¬ ((i : ℕ) → i < n → f (p i) ≡ true)
     some_out still zero s h out p way hg hf = both_ways (q s) out (above s h (ap g (sym way.starts) ∙ hg))
     some_out still (suc n) s h out p way hg hf =
         let m = second k s p way in
@@ -65,7 +65,7 @@ module _ (k : Kripke) (law : Closed k) (f g : ℕ → Bool) where
     next s h = ((choose s h).0, (choose s h).1)
 
     each_out : Still k quantifier.ForAll f q → (n s : ℕ) (h : s < size k) → q s ≡ false → g (walk k law next s h n) ≡ true
-        → ((i : ℕ) → i < n → f (walk k law next s h i) ≡ true) → ⊥
+        → ¬ ((i : ℕ) → i < n → f (walk k law next s h i) ≡ true)
     unfolding walk
     each_out still zero s h out hg hf = both_ways (q s) out (above s h hg)
     each_out still (suc n) s h out hg hf =
@@ -74,6 +74,6 @@ module _ (k : Kripke) (law : Closed k) (f g : ℕ → Bool) where
         (λ out'. each_out still n (choose s h).0 (law.inside s (choose s h).0 h (choose s h).1) out' hg (λ i l. hf (suc i) (omega arith)))
         (choose s h).2
 
-    pub outside : (e : Quantifier) → Still k e f q → (s : ℕ) → s < size k → q s ≡ false → Paths k (dual e) s (λ p. U p → ⊥)
+    pub outside : (e : Quantifier) → Still k e f q → (s : ℕ) → s < size k → q s ≡ false → Paths k (dual e) s (λ p. ¬ U p)
     outside quantifier.ForAll still s h out = (walk k law next s h, walk_path k law next s h, λ u. each_out still u.0 s h out u.1 u.2)
     outside quantifier.Exists still s h out = λ p way u. some_out still u.0 s h out p way u.1 u.2

@@ -7,7 +7,7 @@ use Rattle.kripke.specs.Quantifiers.{dual}
 use Rattle.kripke.specs.declared.node.Node.{Node}
 use Rattle.std.specs.Bool.{beq}
 use Rattle.std.specs.List.{list_all, list_any}
-use Rattle.evaluator.specs.Rows.{bit, at, Tells}
+use Rattle.evaluator.specs.Rows.{bit, at, TruthRow}
 use Rattle.evaluator.specs.declared.row.Order.{Order}
 use Rattle.evaluator.specs.declared.row.Order.TheVariants as order
 use Rattle.kripke.specs.declared.quantifier.Quantifier.{Quantifier}
@@ -60,7 +60,7 @@ Paths k quantifier.ForAll s Φ = OnEach k s Φ
 -- an unmarked one has its negation on each path (or on some).
 pub record Divides (k : Kripke) (e : Quantifier) (Φ : (ℕ → ℕ) → Type 0) (q : ℕ → Bool) : Type 0 where
   pub yes : (s : ℕ) → s < size k → q s ≡ true → Paths k e s Φ
-  pub no : (s : ℕ) → s < size k → q s ≡ false → Paths k (dual e) s (λ p. Φ p → ⊥)
+  pub no : (s : ℕ) → s < size k → q s ≡ false → Paths k (dual e) s (λ p. ¬ Φ p)
   pub beyond : Trim k q
 
 -- Each marked state comes to g by way of f.
@@ -83,12 +83,12 @@ pub record Sweeps (k : Kripke) (e : Quantifier) (f p q : ℕ → Bool) (changed 
 abbrev pub Fed : Kripke → Operator → List Formula → ℕ → ℕ → (ℕ → Bool) → (ℕ → Bool) → Type 0
 Fed k constant fs a b p q = Unit {0}
 Fed k asking fs a b p q = Unit {0}
-Fed k (unary op) fs a b p q = Tells k (slice_index_or fs a truth) p
-Fed k (binary op) fs a b p q = Tells k (slice_index_or fs a truth) p × Tells k (slice_index_or fs b truth) q
+Fed k (unary op) fs a b p q = TruthRow k (slice_index_or fs a truth) p
+Fed k (binary op) fs a b p q = TruthRow k (slice_index_or fs a truth) p × TruthRow k (slice_index_or fs b truth) q
 
 -- The row r of a node, made of its operands' rows, tells of the node's formula.
 abbrev pub Applies : Kripke → Operator → ℕ → ℕ → (ℕ → Bool) → (ℕ → Bool) → (ℕ → Bool) → Type 0
-Applies k op a b p q r = (fs : List Formula) → Fed k op fs a b p q → Tells k (applied op fs a b) r
+Applies k op a b p q r = (fs : List Formula) → Fed k op fs a b p q → TruthRow k (applied op fs a b) r
 
 -- The table is in order for q questions, and w words are enough.
 pub record Ready (q : ℕ) (ns : List Node) (w : ℕ) : Type 0 where
@@ -99,5 +99,5 @@ pub record Ready (q : ℕ) (ns : List Node) (w : ℕ) : Type 0 where
 
 -- The rows below i are made, and the words from there on are as they were.
 pub record Filled (k : Kripke) (ns : List Node) (i : ℕ) (us ws : List ℕ) : Type 0 where
-  pub rows : (j : ℕ) → j < i → Tells k (formula ns j) (at ws j)
+  pub rows : (j : ℕ) → j < i → TruthRow k (formula ns j) (at ws j)
   pub past : (j : ℕ) → 4 * i ≤ j → slice_index ws j ≡ slice_index us j

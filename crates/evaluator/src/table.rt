@@ -1,5 +1,5 @@
 ghost use Rattle.std.specs.Prelude.{◌≡◌, ℕ, ◌*◌, ◌<◌, ◌≤◌, length};
-ghost use Rattle.evaluator.specs.Breaches.{Breach};
+ghost use Rattle.evaluator.specs.Breaches.{EvaluationBreach};
 ghost use Rattle.evaluator.specs.Rows.{at};
 ghost use Rattle.evaluator.specs.Marks.{Applies, Filled, Ready, marks};
 ghost use Rattle.kripke.specs.Nodes.{operator, operators};
@@ -15,7 +15,12 @@ use kripke::refusal::{Cause, Layer, Refusal};
 // Refuses a table that cannot be evaluated into so many words.
 #[tactic(auto, using(crate::proofs::Breaches::first_count, crate::proofs::Breaches::first_node, crate::proofs::Breaches::first_words, crate::proofs::Breaches::clean))]
 pub(crate) fn check(questions: usize, nodes: &[Node], words: usize) -> Result<(), Refusal>
-    ensures { Judged (Breach questions nodes.now words) layer.Evaluation (λ _. Ready questions nodes.now words) (Unit {0}) result }
+    ensures { Judged result record {
+      breaches = EvaluationBreach questions nodes.now words;
+      layer = layer.Evaluation;
+      accepted = λ _. Ready questions nodes.now words;
+      refused = Unit {0};
+    } }
 {
     if nodes.is_empty() || nodes.len() > MOST_NODES {
         return Err(Layer::Evaluation.refusal(Cause::NodeCount, 0));

@@ -4,7 +4,7 @@ use Rattle.std.proofs.lemmas.Bool.{or_cases, or_left, and_parts, and_from}
 use Rattle.kripke.specs.Structure.{Kripke, Lawful, size, successors}
 use Rattle.kripke.specs.Ctl.{Formula, truth, question, and, or, EX, AX, EF, AF, EG, AG, EU, AU, Until, Always}
 use Rattle.kripke.proofs.Reflect.{T_true, and_T, or_T, below-T}
-use Rattle.evaluator.specs.Rows.{Tells}
+use Rattle.evaluator.specs.Rows.{TruthRow}
 use Rattle.evaluator.specs.Marks.{Divides, Marked, Still, Trim, Whole, steps}
 use Rattle.kripke.specs.Quantifiers.{dual}
 use Rattle.kripke.specs.declared.quantifier.Quantifier.{Quantifier}
@@ -51,7 +51,7 @@ module _ (n : ℕ) (k : Kripke) (law : Lawful n k) where
       always_divides n k law (whole k) all (marks k f) (turned k (marks k f)) (λ s l. refl) e (dual e) (until k (dual e) (whole k) (turned k (marks k f)))
       (turned k (until k (dual e) (whole k) (turned k (marks k f)))) refl (until_divides (dual e) (whole k) (turned k (marks k f)) t) (λ s l. refl)
 
-  pub marks_tell : (f : Formula) → T (enough k f) → Tells k f (marks k f)
+  pub marks_tell : (f : Formula) → T (enough k f) → TruthRow k f (marks k f)
   unfolding marks enough
   marks_tell truth t = is_true n k law (whole k) all
   marks_tell (question i) t = is_question n k law i (marks k (question i)) (λ s l. refl)

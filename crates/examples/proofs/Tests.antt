@@ -1,11 +1,13 @@
 -- The statements of the table as tests that compute.
-use Rattle.std.proofs.Common.{ℕ, zero, suc, Bool, true, false, not, ◌&&◌, ◌||◌, eqb, ltb, leb, List, [], ◌∷◌, length, get_or}
+use Rattle.std.proofs.Common.{ℕ, zero, suc, ◌+◌, ◌/◌, ◌%◌, cond, Bool, true, false, not, ◌&&◌, ◌||◌, eqb, ltb, leb, List, [], ◌∷◌, ◌++◌, length, get_or, codes}
 use mathlib.Core.Bool.{beq}
 use Rattle.kripke.specs.Structure.{Kripke, size, state, successors, answer}
 use Rattle.kripke.specs.Ctl.{Formula, truth, question, and, or, EX, AX, EF, AF, EG, AG, EU, AU}
-use Rattle.kripke.specs.Nodes.{Operator, constant, asking, unary, binary, operator, operators, blank}
+use Rattle.kripke.specs.Nodes.{Operator, constant, asking, unary, binary, operator, operators, blank_node}
+use Rattle.kripke.specs.Refusals.{number_of, layer_of}
 use Rattle.kripke.specs.Tests.{every, below, same, settled}
 use Rattle.kripke.specs.declared.node.Node.{Node}
+use Rattle.kripke.specs.declared.refusal.Refusal.{Refusal}
 use Rattle.evaluator.specs.Marks.{steps}
 use Rattle.kripke.specs.declared.quantifier.Quantifier.{Quantifier}
 use Rattle.kripke.specs.declared.quantifier.Quantifier.TheVariants as quantifier
@@ -22,8 +24,8 @@ state_in_order q k s =
     eqb (length (state k s).answers) q
     && (leb 1 (length (successors k s)) && (leb (length (successors k s)) 16 && every (λ t. ltb t (size k)) (successors k s)))
 
-abbrev pub lawful : ℕ → Kripke → Bool
-lawful q k = leb 1 (size k) && (leb (size k) 256 && (ltb k.initial (size k) && below (state_in_order q k) (size k)))
+abbrev pub is_lawful : ℕ → Kripke → Bool
+is_lawful q k = leb 1 (size k) && (leb (size k) 256 && (ltb k.initial (size k) && below (state_in_order q k) (size k)))
 
 -- The closing rule.
 abbrev pub met : Kripke → Kripke → ℕ → Bool
@@ -54,7 +56,7 @@ abbrev pub lawful_node : ℕ → ℕ → Node → Bool
 lawful_node q i n = ltb n.code (length operators) && ordered (operator n) q i n.a n.b
 
 abbrev pub is_well_formed : ℕ → List Node → Bool
-is_well_formed q ns = leb 1 (length ns) && (leb (length ns) 2045 && below (λ i. lawful_node q i (get_or ns i blank)) (length ns))
+is_well_formed q ns = leb 1 (length ns) && (leb (length ns) 2045 && below (λ i. lawful_node q i (get_or ns i blank_node)) (length ns))
 
 -- The states from which each path, or some path, comes to g by way of f, as far as j sweeps find them; and whether one more sweep finds none.
 abbrev pub whole : Kripke → ℕ → Bool
@@ -117,6 +119,16 @@ asked q token.End = true
 abbrev pub limited : ℕ → List Mark → Bool
 limited q [] = true
 limited q (mark t l ∷ ms) = (leb l 64 && asked q t) && limited q ms
+
+-- The line of a refusal whose numbers have at most two digits, and whether it is one.
+abbrev pub numeral : ℕ → List ℕ
+numeral n = cond (ltb n 10) ((48 + n) ∷ []) ((48 + n / 10) ∷ (48 + n % 10) ∷ [])
+
+abbrev pub line_of : Refusal → List ℕ
+line_of e = codes "refused " ++ (numeral (number_of e.cause) ++ (codes " " ++ (numeral (layer_of e.layer) ++ (codes " " ++ numeral e.place))))
+
+abbrev pub two_digits : Refusal → Bool
+two_digits e = ltb (number_of e.cause) 100 && (ltb (layer_of e.layer) 100 && ltb e.place 100)
 
 -- The formula of a text that begins with operators of one argument, and ends with what has none.
 abbrev pub chain : List Token → Formula

@@ -4,7 +4,7 @@ use Rattle.std.proofs.lemmas.List.{take-append-drop}
 use Rattle.std.proofs.lemmas.Bool.{leb-true, ltb-true}
 use Rattle.kripke.specs.Ctl.{Formula}
 use Rattle.kripke.specs.Nodes.{root}
-use Rattle.kripke.specs.Refusals.{FirstBy}
+use Rattle.kripke.specs.Refusals.{FirstBreachBy}
 use Rattle.kripke.specs.declared.node.Node.{Node}
 use Rattle.kripke.specs.declared.refusal.Cause.TheVariants.{TooDeep}
 use Rattle.kripke.specs.declared.refusal.Layer.TheVariants as layer
@@ -12,12 +12,12 @@ use Rattle.kripke.proofs.Reflect.{T_true, and_T}
 use Rattle.reader.specs.Tokens.{Stream, done, next, tokens, first, offset, kinds, After}
 use Rattle.reader.specs.Grammar.{Mark, mark, marks, toks, whole, Asked, All, Within}
 use Rattle.reader.specs.Table.{table}
-use Rattle.reader.specs.Breaches.{Limited, Breach, Sooner}
+use Rattle.reader.specs.Breaches.{Limited, TextBreach, Sooner}
 use Rattle.reader.specs.Phrases as why
 use Rattle.reader.specs.declared.token.Token.{Token}
 use Rattle.reader.specs.declared.token.Token.TheVariants as token
 use Rattle.reader.proofs.Lawful.{well_formed}
-use Rattle.reader.proofs.Verdicts.{one_formula, clean, told}
+use Rattle.reader.proofs.Verdicts.{one_formula, clean, first_breach}
 use Rattle.examples.specs.Rows.{Read}
 use Rattle.examples.proofs.Tests.{asked, limited, skip}
 
@@ -81,9 +81,9 @@ after_skip (suc n) (next o t s) h = (refl, after_skip n s (omega arith))
 pub deep_right : (text : List ℕ) (f : Formula) (n place : ℕ) (v : List Mark) → T (leb (length text) 4096) → T (ltb n (length (kinds (tokens 0 0 text))))
     → T (limited 32 (take n (whole f))) → T (asked 32 (first (skip n (tokens 0 0 text)))) → kinds (tokens 0 0 text) ≡ toks (whole f)
     → drop n (whole f) ≡ mark (first (skip n (tokens 0 0 text))) 65 ∷ v → offset (skip n (tokens 0 0 text)) ≡ place
-    → (places : ℕ) → FirstBy Sooner (Breach text 32 places) layer.Text (record { cause = TooDeep; layer = layer.Text; place = place })
+    → (places : ℕ) → FirstBreachBy Sooner (TextBreach text 32 places) layer.Text (record { cause = TooDeep; layer = layer.Text; place = place })
 deep_right text f n place v t u x y is w here places =
-    told text 32 places (short text t) _ (record {
+    first_breach text 32 places (short text t) _ (record {
       pre = take n (whole f);
       w = drop n (whole f);
       value = (f, tt);

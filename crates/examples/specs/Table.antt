@@ -6,7 +6,7 @@ use Rattle.kripke.specs.Ctl.{question, EF, AF, AG}
 use Rattle.kripke.specs.declared.node.Node.{Node}
 use Rattle.labels.specs.Kinds.{bits}
 use Rattle.reader.specs.Table.{node}
-use Rattle.examples.specs.Rows.{Row, answers, says, closes, told, untold, reads, too_deep, evaluated, unevaluated, alike, different}
+use Rattle.examples.specs.Rows.{Row, lawful, answers, says, closes, enough_places, few_places, reads, too_deep, enough_words, few_words, alike, different}
 
 -- A state: its signal word and its successors. A structure begins at its state 0.
 abbrev pub to : ℕ → List ℕ → State
@@ -34,9 +34,25 @@ P = model (to 0 (1 ∷ []) ∷ to 0 (2 ∷ 3 ∷ []) ∷ to 1 (2 ∷ []) ∷ to 
 abbrev pub R : Kripke
 R = model (to 0 (1 ∷ 2 ∷ []) ∷ to 0 (3 ∷ []) ∷ to 0 (4 ∷ []) ∷ to 1 (3 ∷ []) ∷ to 2 (4 ∷ []) ∷ [])
 
+-- One state that leads to itself so many times; so many states that do it once; the most states, each with the most successors.
+abbrev pub wide : ℕ → Kripke
+wide n = model (to 0 (replicate n 0) ∷ [])
+
+abbrev pub long : ℕ → Kripke
+long n = model (replicate n (to 0 (0 ∷ [])))
+
+abbrev pub largest : Kripke
+largest = model (replicate 256 (to 4294967295 (replicate 16 255)))
+
 -- E[q0 U (q1&!q2)]: its last node is E[0 U 4].
 abbrev pub until : List Node
 until = node 1 0 0 ∷ node 1 1 0 ∷ node 1 2 0 ∷ node 2 2 0 ∷ node 3 1 3 ∷ node 11 0 4 ∷ []
+
+-- A[EX AX q0 U (EF AF q1&(EG AG !q2|T))]: every operator but E[U].
+abbrev pub operators : List Node
+operators =
+    node 1 0 0 ∷ node 6 0 0 ∷ node 5 1 0 ∷ node 1 1 0 ∷ node 8 3 0 ∷ node 7 4 0 ∷ node 1 2 0 ∷ node 2 6 0
+    ∷ node 10 7 0 ∷ node 9 8 0 ∷ node 0 0 0 ∷ node 4 9 10 ∷ node 3 5 11 ∷ node 12 2 12 ∷ []
 
 -- So many signs ! and T: node 0 is true, and every other node is the one before it, negated.
 abbrev pub negations : ℕ → List ℕ
@@ -56,13 +72,18 @@ table =
     ∷ says W (AF (question 0)) false
     ∷ closes L L alike 1
     ∷ closes L S different 2
-    ∷ told L S 2 13
-    ∷ untold L S 2 12
+    ∷ enough_places L S 2 13
+    ∷ few_places L S 2 12 (codes "refused 21 6 12")
     ∷ closes P R different 2
     ∷ closes L M different 0
     ∷ reads (codes "E[q0 U (q1&!q2)]") until
-    ∷ evaluated until 24
-    ∷ unevaluated until 23
+    ∷ enough_words until 24
+    ∷ few_words until 23 (codes "refused 16 5 23")
     ∷ reads (negations 63) (negated 63)
-    ∷ too_deep (negations 64) 64
+    ∷ too_deep (negations 64) 64 (codes "refused 12 4 64")
+    ∷ reads (codes "A[EX AX q0 U (EF AF q1&(EG AG !q2|T))]") operators
+    ∷ lawful largest true
+    ∷ lawful (long 257) false
+    ∷ lawful (wide 17) false
+    ∷ lawful (wide 0) false
     ∷ []

@@ -4,7 +4,7 @@ use Rattle.std.proofs.lemmas.List.{length_push, get_or_append_left, get_or_push,
 use Rattle.kripke.specs.Structure.{Kripke, Member, State, state}
 use Rattle.image.specs.Checks.{Links, Shown}
 use Rattle.image.specs.Held.{Filled}
-use Rattle.image.specs.Image.{states, initial}
+use Rattle.image.specs.Image.{label_bytes, states, initial}
 use Rattle.labels.specs.Kinds.{Coding}
 use Rattle.image.specs.Loading.{Describes}
 use Rattle.image.specs.Stored.{row_state, rows_mean, Inside}
@@ -12,20 +12,25 @@ use Rattle.image.specs.declared.stored.row.Row.{Row}
 use Rattle.image.specs.Rows.{next_is}
 use Rattle.image.proofs.Walks.{targets}
 
-module _ {L : Type 0} (answers : L → List Bool) (c : Coding) (img : List ℕ) where
-  pub filled_none : (n : ℕ) (rows : List (Row L)) → n ≡ 0 → rows ≡ [] → Filled answers c img n rows
-  filled_none n rows e f = record { count = omega (arith, e, ap length f); each = λ s d l. absurd (omega arith) }
+module _ {L : Type 0} (answers : L → List Bool) (codes : List ℕ → L → Type 0) (c : Coding) (img : List ℕ) where
+  pub filled_none : (n : ℕ) (rows : List (Row L)) → n ≡ 0 → rows ≡ [] → Filled answers codes c img n rows
+  filled_none n rows e f = record { count = omega (arith, e, ap length f); each = λ s d l. absurd (omega arith); coded = λ s d l. absurd (omega arith) }
 
   pub filled_more : (n : ℕ) (rows then : List (Row L)) (r : Row L)
-      → Filled answers c img n rows → Shown c img n (row_state answers r) → then ≡ rows ++ r ∷ [] → Filled answers c img (n + 1) then
-  filled_more n rows then r f h e =
-      subst (λ (xs : List (Row L)). Filled answers c img (n + 1) xs) (sym e)
+      → Filled answers codes c img n rows → Shown c img n (row_state answers r) → codes (label_bytes img n) r.label → then ≡ rows ++ r ∷ []
+      → Filled answers codes c img (n + 1) then
+  filled_more n rows then r f h g e =
+      subst (λ (xs : List (Row L)). Filled answers codes c img (n + 1) xs) (sym e)
       record {
         count = let k = f.count in omega (arith, length_push rows r);
         each = λ s d.
             below_more (λ k. Shown c img k (row_state answers (get_or (rows ++ r ∷ []) k d))) n
             (λ k l. let m = f.count in subst (λ (x : Row L). Shown c img k (row_state answers x)) (sym (get_or_append_left rows (r ∷ []) d k (omega arith))) (f.each k d l))
             (subst (λ (x : Row L). Shown c img n (row_state answers x)) (sym (get_or_push rows r d n f.count)) h) s;
+        coded = λ s d.
+            below_more (λ k. codes (label_bytes img k) (get_or (rows ++ r ∷ []) k d).label) n
+            (λ k l. let m = f.count in subst (λ (x : Row L). codes (label_bytes img k) x.label) (sym (get_or_append_left rows (r ∷ []) d k (omega arith))) (f.coded k d l))
+            (subst (λ (x : Row L). codes (label_bytes img n) x.label) (sym (get_or_push rows r d n f.count)) g) s;
       }
 
 -- what holds of the row at a place holds of the state that it means
@@ -35,7 +40,7 @@ state_of answers [] start s P l h = absurd (omega arith)
 state_of answers (r ∷ rs) start s P l h = subst P (sym (get_or-map (row_state answers) (r ∷ rs) s r _ l)) (h r)
 
 -- all rows, and the header's initial state
-module _ {L : Type 0} (answers : L → List Bool) {c : Coding} {img : List ℕ} (rows : List (Row L)) (start : ℕ) (f : Filled answers c img (states img) rows) where
+module _ {L : Type 0} (answers : L → List Bool) {codes : List ℕ → L → Type 0} {c : Coding} {img : List ℕ} (rows : List (Row L)) (start : ℕ) (f : Filled answers codes c img (states img) rows) where
   abbrev mean : Kripke
   mean = rows_mean answers rows start
 

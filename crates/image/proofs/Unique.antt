@@ -2,15 +2,12 @@
 use Rattle.std.proofs.Common.{◌≡◌, ℕ, Bool, List, ◌∷◌, Some, Ok, Err, Result, unwrap_or, sym, refl, ap, ◌∙◌, arith}
 use Rattle.std.proofs.lemmas.List.{ext_get_or, get_or_default}
 use Rattle.kripke.proofs.Orders.{one_refusal}
-use Rattle.kripke.specs.Structure.{Kripke, State, blank, state}
-use Rattle.kripke.specs.Refusals.{First, JudgedInMemory}
-use Rattle.kripke.specs.declared.refusal.Error.{Error}
-use Rattle.kripke.specs.declared.refusal.Error.TheVariants.{Refused, Memory}
-use Rattle.kripke.specs.declared.refusal.Layer.{Layer}
+use Rattle.kripke.specs.Structure.{Kripke, State, blank_state, state}
+use Rattle.kripke.specs.Refusals.{FirstBreach, Judged, Judgement}
 use Rattle.kripke.specs.declared.refusal.Refusal.{Refusal}
 use Rattle.labels.specs.Kinds.{Coding}
 use Rattle.image.specs.Image.{first, target, Chain, end, more}
-use Rattle.image.specs.Loading.{Breach, Describes, Gives}
+use Rattle.image.specs.Loading.{ImageBreach, Describes}
 use Rattle.image.specs.Theorems.{OneModel, OneRefusal}
 
 -- a chain has one list of targets
@@ -28,11 +25,11 @@ one_model c img k l d e =
     let n = d.counted in
     let m = e.counted in
     let same : k.states ≡ l.states =
-    ext_get_or blank k.states l.states (omega arith)
+    ext_get_or blank_state k.states l.states (omega arith)
     (λ s h.
     let answers = same_some _ _ (sym (d.labelled s (omega arith)) ∙ e.labelled s (omega arith)) in
     let next = one_chain (d.linked s (omega arith)) (e.linked s (omega arith)) in
-    get_or_default k.states s blank _ h ∙ (both (state k s) (state l s) answers next ∙ sym (get_or_default l.states s blank _ (omega arith)))) in
+    get_or_default k.states s blank_state _ h ∙ (both (state k s) (state l s) answers next ∙ sym (get_or_default l.states s blank_state _ (omega arith)))) in
     whole k l (d.begins ∙ sym e.begins) same
   where
     both : (x y : State) → x.answers ≡ y.answers → x.next ≡ y.next → x ≡ y
@@ -41,14 +38,13 @@ one_model c img k l d e =
     whole : (x y : Kripke) → x.initial ≡ y.initial → x.states ≡ y.states → x ≡ y
     whole x y p q = λ i. record { initial = p i; states = q i }
 
-pub one_given : {X : Type 0} (c : Coding) (img : List ℕ) (layer : Layer) (Good : X → Type 0) (Same : Type 0) (r : Result X Error) → JudgedInMemory (Breach c img) layer Good Same r
-    → (e : Refusal) → First (Breach c img) layer e → Gives e r
-one_given c img layer Good Same (Ok x) (clean, good) e first = clean e.cause e.place first.broken
-one_given c img layer Good Same (Err (Refused f)) (told, same) e first = one_refusal (Breach c img) layer e f first told
-one_given c img layer Good Same (Err Memory) (clean, same) e first = clean e.cause e.place first.broken
+-- a call's result is the only refusal that the breaches allow
+pub one_given : (r : Result (Unit {0}) Refusal) (j : Judgement (Unit {0})) (e : Refusal) → Judged r j → FirstBreach j.breaches j.layer e → r ≡ Err e
+one_given (Ok x) j e (clean, good) first = absurd (clean e.cause e.place first.broken)
+one_given (Err f) j e (told, after) first = ap Err (one_refusal j.breaches j.layer f e told first)
 
 pub models_one : OneModel
 models_one = one_model
 
 pub refusals_one : OneRefusal
-refusals_one c img layer = (one_refusal (Breach c img) layer, λ clean e first. clean e.cause e.place first.broken)
+refusals_one c img layer = (one_refusal (ImageBreach c img) layer, λ clean e first. clean e.cause e.place first.broken)

@@ -22,7 +22,7 @@ pub not_empty : {img : List ℕ} {l : ℕ} {ts : List ℕ} → Chain img l ts �
 not_empty end h = omega arith
 not_empty (more l ch) h = omega arith
 
-pub at_most : {img : List ℕ} {l : ℕ} {ts : List ℕ} (n : ℕ) → (Walk img l (suc n) → ⊥) → Chain img l ts → length ts ≤ n
+pub at_most : {img : List ℕ} {l : ℕ} {ts : List ℕ} (n : ℕ) → ¬ Walk img l (suc n) → Chain img l ts → length ts ≤ n
 at_most {ts = ts} n short ch = ⊎_elim (λ h. absurd (short (walks (suc n) ch (omega arith)))) (λ h. h) (cases_lt n (length ts))
 
 pub targets : {img : List ℕ} {l : ℕ} {ts : List ℕ} → Links img → Chain img l ts → (t : ℕ) → Member t ts → t < states img

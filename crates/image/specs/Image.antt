@@ -7,6 +7,16 @@ byte_at img i = slice_index img i
 unfoldable pub number_at : List ℕ → ℕ → ℕ
 number_at img i = byte_at img i + byte_at img (i + 1) * 256
 
+-- The limits of a model that an image can describe: its states, its links, and the successors of a state.
+abbrev pub most_states : ℕ
+most_states = 256
+
+abbrev pub most_links : ℕ
+most_links = 4096
+
+abbrev pub most_successors : ℕ
+most_successors = 16
+
 -- The header, 8 bytes: kind, a zero byte, the number of states, the number of links, the initial state.
 abbrev pub kind_of : List ℕ → ℕ
 kind_of img = byte_at img 0

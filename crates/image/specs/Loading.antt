@@ -1,16 +1,12 @@
 -- What an image must keep to, and the model that it describes.
-use Rattle.std.specs.Prelude.{◌≡◌, ℕ, ◌+◌, ◌<◌, ◌≤◌, Bool, true, List, [], ◌∷◌, length, is_some, Some, Ok, Err, Result, ◌≢◌}
-use Rattle.kripke.specs.Refusals.{number_of}
+use Rattle.std.specs.Prelude.{◌≡◌, ℕ, suc, ◌+◌, ◌<◌, ◌≤◌, Bool, true, List, [], ◌∷◌, length, is_some, Some, ◌≢◌}
 use Rattle.kripke.specs.Structure.{Kripke, size, state, successors}
 use Rattle.kripke.specs.declared.refusal.Cause.{Cause}
 use Rattle.kripke.specs.declared.refusal.Cause.TheVariants.{ShortImage, HeaderField, ImageLength, StateRecord, LinkRecord, LongChain}
-use Rattle.kripke.specs.declared.refusal.Error.{Error}
-use Rattle.kripke.specs.declared.refusal.Error.TheVariants.{Refused, Memory}
-use Rattle.kripke.specs.declared.refusal.Refusal.{Refusal}
 use Rattle.kripke.specs.declared.refusal.Layer.{Layer}
 use Rattle.kripke.specs.declared.refusal.Layer.TheVariants.{FirstImage, SecondImage}
 use Rattle.labels.specs.Kinds.{Coding}
-use Rattle.image.specs.Image.{byte_at, kind_of, states, links, initial, whole, state_at, label_bytes, first, link_at, target, after, Link, Chain, Walk}
+use Rattle.image.specs.Image.{most_states, most_links, most_successors, byte_at, kind_of, states, links, initial, whole, state_at, label_bytes, first, link_at, target, after, Link, Chain, Walk}
 use Rattle.image.specs.declared.slot.Slot.{Slot}
 use Rattle.image.specs.declared.slot.Slot.TheVariants.{First, Second}
 
@@ -28,20 +24,20 @@ pub record GoodLink (img : List ℕ) (l : ℕ) : Type 0 where
 
 -- A header field that is outside its limits, by its offset.
 pub data BadField (c : Coding) (img : List ℕ) : ℕ → Type 0 where
-  kind : (kind_of img ≢ c.kind) → BadField c img 0
-  gap : (byte_at img 1 ≢ 0) → BadField c img 1
-  state_count : ((1 ≤ states img) × (states img ≤ 256) → ⊥) → BadField c img 2
-  link_count : ((1 ≤ links img) × (links img ≤ 4096) → ⊥) → BadField c img 4
-  begins : (initial img < states img → ⊥) → BadField c img 6
+  kind : kind_of img ≢ c.kind → BadField c img 0
+  gap : byte_at img 1 ≢ 0 → BadField c img 1
+  state_count : ¬ ((1 ≤ states img) × (states img ≤ most_states)) → BadField c img 2
+  link_count : ¬ ((1 ≤ links img) × (links img ≤ most_links)) → BadField c img 4
+  begins : ¬ initial img < states img → BadField c img 6
 
 -- The breaches of an image for a holder of kind c, each with its cause and place.
-pub data Breach (c : Coding) (img : List ℕ) : Cause → ℕ → Type 0 where
-  short : length img < 8 → Breach c img ShortImage (length img)
-  field : {p : ℕ} → BadField c img p → Breach c img HeaderField p
-  sized : (length img ≢ whole img) → Breach c img ImageLength (whole img)
-  entry : {s : ℕ} → s < states img → (GoodState c img s → ⊥) → Breach c img StateRecord (state_at s)
-  link : {l : ℕ} → Link img l → (GoodLink img l → ⊥) → Breach c img LinkRecord (link_at img l)
-  chain : {s : ℕ} → s < states img → Walk img (first img s) 17 → Breach c img LongChain (state_at s)
+pub data ImageBreach (c : Coding) (img : List ℕ) : Cause → ℕ → Type 0 where
+  short : length img < 8 → ImageBreach c img ShortImage (length img)
+  field : {p : ℕ} → BadField c img p → ImageBreach c img HeaderField p
+  sized : length img ≢ whole img → ImageBreach c img ImageLength (whole img)
+  entry : {s : ℕ} → s < states img → ¬ GoodState c img s → ImageBreach c img StateRecord (state_at s)
+  link : {l : ℕ} → Link img l → ¬ GoodLink img l → ImageBreach c img LinkRecord (link_at img l)
+  chain : {s : ℕ} → s < states img → Walk img (first img s) (suc most_successors) → ImageBreach c img LongChain (state_at s)
 
 -- The model that an image describes: the initial state and the number of states of its header, each with the label of its bytes and the targets of its chain.
 pub record Describes (c : Coding) (img : List ℕ) (k : Kripke) : Type 0 where
@@ -60,9 +56,3 @@ Fresh c k =
 abbrev pub slot_layer : Slot → Layer
 slot_layer First = FirstImage
 slot_layer Second = SecondImage
-
--- The result is this refusal: its number, its layer and its place.
-abbrev pub Gives : {X : Type 0} → Refusal → Result X Error → Type 0
-Gives e (Ok x) = ⊥
-Gives e (Err (Refused f)) = (number_of e.cause ≡ number_of f.cause) × (e.layer ≡ f.layer) × (e.place ≡ f.place)
-Gives e (Err Memory) = ⊥

@@ -39,14 +39,14 @@ impl<'a> Linked<'a> {
     // Has the chain of state s more links than a state may have successors?
     fn chain_is_long(&self, s: usize) -> bool
         requires { s < self.now.records.states }
-        ensures { MatchBool result (LongChain self.now.records.image.now s) (LongChain self.now.records.image.now s → ⊥) }
+        ensures { MatchBool result (LongChain self.now.records.image.now s) (¬ LongChain self.now.records.image.now s) }
     {
         self.chain(s).nth(MOST_SUCCESSORS).is_some()
     }
 
     // The first state whose chain is too long.
     pub(crate) fn first_long_chain(&self) -> Option<usize>
-        ensures { FirstBad (λ s. LongChain self.now.records.image.now s → ⊥) (LongChain self.now.records.image.now) 0 self.now.records.states result }
+        ensures { FirstBad (λ s. ¬ LongChain self.now.records.image.now s) (LongChain self.now.records.image.now) 0 self.now.records.states result }
     {
         (0..self.records.states).find(|s| self.chain_is_long(*s))
     }

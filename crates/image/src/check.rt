@@ -1,7 +1,7 @@
 ghost use Rattle.std.specs.Prelude.{◌≡◌, MatchResult};
-ghost use Rattle.kripke.specs.Refusals.{Clean, First};
+ghost use Rattle.kripke.specs.Refusals.{Clean, FirstBreach};
 ghost use Rattle.image.specs.Checks.{States};
-ghost use Rattle.image.specs.Loading.{Breach};
+ghost use Rattle.image.specs.Loading.{ImageBreach};
 
 use crate::chain::Linked;
 use crate::records::Records;
@@ -14,13 +14,13 @@ use std::marker::PhantomData;
 pub(crate) struct Sound<'a, L: Coded> {
     pub(crate) linked: Linked<'a>,
     labels: PhantomData<L>,
-    ghost clean: { Clean (Breach L.Coded.coding linked.records.image.now) },
+    ghost clean: { Clean (ImageBreach L.Coded.coding linked.records.image.now) },
     ghost good: { States L.Coded.coding linked.records.image.now },
 }
 
 // Checks the whole image, for a holder of labels L.
 pub(crate) fn check<L: Coded>(image: &[u8], layer: Layer) -> Result<Sound<L>, Refusal>
-    ensures { MatchResult result (λ x. x.linked.records.image.now ≡ image.now) (λ e. First (Breach L.Coded.coding image.now) layer e) }
+    ensures { MatchResult result (λ x. x.linked.records.image.now ≡ image.now) (λ e. FirstBreach (ImageBreach L.Coded.coding image.now) layer e) }
 {
     let records = Records::read::<L>(image, layer)?;
     if let Some(s) = records.first_bad_state::<L>() {

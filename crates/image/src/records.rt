@@ -1,19 +1,19 @@
-ghost use Rattle.std.specs.Prelude.{◌≡◌, ◌+◌, ◌<◌, ◌≤◌, length, MatchBool, MatchResult};
+ghost use Rattle.std.specs.Prelude.{◌≡◌, ◌+◌, ◌<◌, ◌≤◌, length, IfSome, MatchBool, MatchResult};
 ghost use Rattle.std.specs.Option.{option_map};
-ghost use Rattle.kripke.specs.Refusals.{First};
+ghost use Rattle.kripke.specs.Refusals.{FirstBreach};
 ghost use Rattle.image.specs.Checks.{FirstBad, FirstBadField, GoodHeader};
 ghost use Rattle.image.specs.Image;
-ghost use Rattle.image.specs.Loading.{Breach, GoodLink, GoodState};
+ghost use Rattle.image.specs.Loading.{ImageBreach, GoodLink, GoodState};
 
 use kripke::refusal::{Cause, Layer, Refusal};
 use labels::coded::Coded;
 
 // The lengths of the header, of a state's record and of a link's, in bytes.
-const HEADER: usize = 8;
+pub(crate) const HEADER: usize = 8;
 
-const STATE_RECORD: usize = 8;
+pub(crate) const STATE_RECORD: usize = 8;
 
-const LINK_RECORD: usize = 4;
+pub(crate) const LINK_RECORD: usize = 4;
 
 // The offsets of the header's fields.
 const KIND: usize = 0;
@@ -27,9 +27,9 @@ const LINKS: usize = 4;
 const INITIAL: usize = 6;
 
 // The most states and links that an image may have.
-const MOST_STATES: usize = 256;
+pub(crate) const MOST_STATES: usize = 256;
 
-const MOST_LINKS: usize = 4096;
+pub(crate) const MOST_LINKS: usize = 4096;
 
 // An image with a header in order, and the numbers of the header.
 #[derive(Clone, Copy)]
@@ -43,8 +43,8 @@ pub(crate) struct Records<'a> {
     ghost initial_is: { initial ≡ Image.initial image.now },
     ghost sized: { length image.now ≡ Image.whole image.now },
     ghost some: { 1 ≤ states },
-    ghost few: { states ≤ 256 },
-    ghost few_links: { links ≤ 4096 },
+    ghost few: { states ≤ Image.most_states },
+    ghost few_links: { links ≤ Image.most_links },
     ghost begins: { initial < states },
 }
 
@@ -83,7 +83,7 @@ fn bad_field<L: Coded>(image: &[u8]) -> Option<usize>
 impl<'a> Records<'a> {
     // Reads the header, and checks it and the length.
     pub(crate) fn read<L: Coded>(image: &'a [u8], layer: Layer) -> Result<Records<'a>, Refusal>
-        ensures { MatchResult result (λ records. (records.image.now ≡ image.now) × GoodHeader L.Coded.coding records.image.now) (λ e. First (Breach L.Coded.coding image.now) layer e) }
+        ensures { MatchResult result (λ records. (records.image.now ≡ image.now) × GoodHeader L.Coded.coding records.image.now) (λ e. FirstBreach (ImageBreach L.Coded.coding image.now) layer e) }
     {
         if image.len() < HEADER {
             return Err(layer.refusal(Cause::ShortImage, image.len()));
@@ -125,7 +125,8 @@ impl<'a> Records<'a> {
     // The label of state s, if its bytes code one.
     pub(crate) fn label<L: Coded>(&self, s: usize) -> Option<L>
         requires { s < self.now.states }
-        ensures { option_map L.Label.answers result ≡ L.Coded.coding.decoded (Image.label_bytes self.now.image.now s) }
+        ensures answers { option_map L.Label.answers result ≡ L.Coded.coding.decoded (Image.label_bytes self.now.image.now s) }
+        ensures coded { IfSome result (λ label. L.Coded.codes (Image.label_bytes self.now.image.now s) label) }
     {
         let at = self.state_at(s);
         L::decode([
@@ -139,7 +140,7 @@ impl<'a> Records<'a> {
     // Is the record of state s in order?
     fn state_in_order<L: Coded>(&self, s: usize) -> bool
         requires { s < self.now.states }
-        ensures { MatchBool result (GoodState L.Coded.coding self.now.image.now s) (GoodState L.Coded.coding self.now.image.now s → ⊥) }
+        ensures { MatchBool result (GoodState L.Coded.coding self.now.image.now s) (¬ GoodState L.Coded.coding self.now.image.now s) }
     {
         let at = self.state_at(s);
         let first = self.first_link(s);
@@ -153,7 +154,7 @@ impl<'a> Records<'a> {
 
     // The first state whose record is not in order.
     pub(crate) fn first_bad_state<L: Coded>(&self) -> Option<usize>
-        ensures { FirstBad (GoodState L.Coded.coding self.now.image.now) (λ s. GoodState L.Coded.coding self.now.image.now s → ⊥) 0 self.now.states result }
+        ensures { FirstBad (GoodState L.Coded.coding self.now.image.now) (λ s. ¬ GoodState L.Coded.coding self.now.image.now s) 0 self.now.states result }
     {
         (0..self.states).find(|s| !self.state_in_order::<L>(*s))
     }
@@ -185,7 +186,7 @@ impl<'a> Records<'a> {
     // Is the record of link l in order?
     fn link_in_order(&self, l: usize) -> bool
         requires { Image.Link self.now.image.now l }
-        ensures { MatchBool result (GoodLink self.now.image.now l) (GoodLink self.now.image.now l → ⊥) }
+        ensures { MatchBool result (GoodLink self.now.image.now l) (¬ GoodLink self.now.image.now l) }
     {
         let target = self.target(l) as usize;
         let after = self.after(l);
@@ -194,7 +195,7 @@ impl<'a> Records<'a> {
 
     // The first link whose record is not in order.
     pub(crate) fn first_bad_link(&self) -> Option<usize>
-        ensures { FirstBad (GoodLink self.now.image.now) (λ l. GoodLink self.now.image.now l → ⊥) 1 (self.now.links + 1) result }
+        ensures { FirstBad (GoodLink self.now.image.now) (λ l. ¬ GoodLink self.now.image.now l) 1 (self.now.links + 1) result }
     {
         (1..self.links + 1).find(|l| !self.link_in_order(*l))
     }

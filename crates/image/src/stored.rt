@@ -1,15 +1,26 @@
-ghost use Rattle.std.specs.Prelude.{ℕ, ◌<◌, ◌≤◌, length};
+ghost use Rattle.std.specs.Prelude.{ℕ, ◌<◌, ◌≤◌, length, vec_capacity};
+ghost use Rattle.image.specs.Image.{most_states};
 ghost use Rattle.image.specs.Stored.{Inside};
 
 use self::row::Row;
+use crate::records::{HEADER, LINK_RECORD, MOST_LINKS, MOST_STATES, STATE_RECORD};
 
-// A model that is held in memory, as an image described it.
+/// No image that is loaded has more bytes: a longer one is refused.
+pub const LONGEST_IMAGE: usize = HEADER + STATE_RECORD * MOST_STATES + LINK_RECORD * MOST_LINKS;
+
+const _: () = prove!(LONGEST_IMAGE == 18_440);
+
+/// A model in memory, with labels L, as an image described it (docs/FORMATS.md, "The stored image").
+///
+/// Its states, 1 to 256, and the 1 to 16 successors of each are asked by the trait `Model`. The room for all of them is reserved
+/// when the holder is made, so that loading asks for none.
 #[derive(Drop)]
 pub struct StoredModel<L> {
     rows: Vec<Row<L>>,
     initial: u16,
+    ghost room: { most_states ≤ vec_capacity rows },
     ghost some: { 1 ≤ length rows.items },
-    ghost few: { length rows.items ≤ 256 },
+    ghost few: { length rows.items ≤ most_states },
     ghost begins: { initial < length rows.items },
     ghost inside: { Inside rows.items },
 }

@@ -71,7 +71,7 @@ still_settled a b k old new o n keep i j hi hj h =
 
 -- A round that changes some class splits something.
 pub changed_unsettled : (a b : Kripke) (k : ℕ) (old new : List ℕ) → Numbered a b k old → Numbered a b (suc k) new
-    → (i j : ℕ) → i < total a b → j < total a b → Alike old i j → (Alike new i j → ⊥) → Settled a b k → ⊥
+    → (i j : ℕ) → i < total a b → j < total a b → Alike old i j → (¬ Alike new i j) → ¬ Settled a b k
 changed_unsettled a b k old new o n i j hi hj e d st = d ((numbered_to a b (suc k) new n i j hi hj).1 (st i j hi hj ((numbered_to a b k old o i j hi hj).0 e)))
 
 module _ (a b : Kripke) (k : ℕ) (cls : List ℕ) where

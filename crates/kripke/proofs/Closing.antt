@@ -14,19 +14,19 @@ use Rattle.kripke.proofs.Settle.{stable_agree}
 use Rattle.kripke.proofs.Counts.{classes_counted, classes_grow, settles}
 
 -- The same states of settled structures are not separated by any formula.
-settled_together : (a b : Kripke) → Closed a → Closed b → (k : ℕ) → Settled a b k → (s t : ℕ) → s < size a → t < size b → Same a b k s t → Apart a b s t → ⊥
+settled_together : (a b : Kripke) → Closed a → Closed b → (k : ℕ) → Settled a b k → (s t : ℕ) → s < size a → t < size b → Same a b k s t → ¬ Apart a b s t
 settled_together a b la lb k st s t hs ht h (f, z) =
     unseparated a b s t f (stable_agree a b la lb k (settled_at a b k st a b (first_listed a b) (second_listed a b)) s t hs ht h f) z
 
 pub apart_by_rounds : ApartByRounds
 apart_by_rounds a b la lb s t hs ht = (forth, back)
   where
-    forth : Apart a b s t → (k : ℕ) × (Same a b k s t → ⊥)
+    forth : Apart a b s t → (k : ℕ) × (¬ Same a b k s t)
     forth apart =
         let (k, l, st) = settles a b (omega arith) in
         (k, λ h. settled_together a b la lb k st s t hs ht h apart)
 
-    back : ((k : ℕ) × (Same a b k s t → ⊥)) → Apart a b s t
+    back : ((k : ℕ) × (¬ Same a b k s t)) → Apart a b s t
     back (k, n) = ⊎_elim (λ h. absurd (n h)) (λ (z : Separated a b k s t). (z.0, z.3)) (same_or_separated a b la lb k s t hs ht)
 
 pub models_apart : ModelsApart
@@ -54,7 +54,7 @@ closes_in_time q a b la lb =
     (k, omega arith, (z, before))
 
 -- While it is open after every number of rounds up to k, there are more states than that.
-pub still_open : (q : ℕ) (a b : Kripke) → Lawful q a → Lawful q b → (k : ℕ) → ((j : ℕ) → j ≤ k → ClosedAfter a b j → ⊥) → k < total a b
+pub still_open : (q : ℕ) (a b : Kripke) → Lawful q a → Lawful q b → (k : ℕ) → ((j : ℕ) → j ≤ k → ¬ ClosedAfter a b j) → k < total a b
 still_open q a b la lb k still =
     let (n, l, (z, _)) = closes_in_time q a b la lb in
     ⊎_elim (λ h. omega arith) (λ (h : n ≤ k). absurd (still n h z)) (cases_lt k n)
@@ -67,7 +67,7 @@ pub different_separated : DifferentSeparated
 different_separated q a b la lb k first different = (found, least)
   where
     -- Fewer rounds leave the initial states together, so what separates them nests deeper.
-    deep : (k : ℕ) → ((j : ℕ) → j < k → ClosedAfter a b j → ⊥) → (f : Formula) → NextOnly f → Separates a b a.initial b.initial f → k ≤ nesting f
+    deep : (k : ℕ) → ((j : ℕ) → j < k → ¬ ClosedAfter a b j) → (f : Formula) → NextOnly f → Separates a b a.initial b.initial f → k ≤ nesting f
     deep zero still f o z = omega arith
     deep (suc j) still f o z =
         least_nesting a b la.closed lb.closed j a.initial b.initial la.begins lb.begins

@@ -38,14 +38,14 @@ module _ (k : Kripke) (law : Closed k) where
       ⊎_elim
       (λ each. inr (λ z. let u = each z.0 z.1 in u.1 (z.2 u.0)))
       (λ z. inl (z.0, z.1, λ i. surely (d (z.0 i) (path_inside k law s h z.0 z.1 i)) (λ n. z.2 (i, n, λ j l. tt))))
-      (until_each k law Anything (λ u. P u → ⊥) anything (λ u l. either_not (d u l)) s h)
+      (until_each k law Anything (λ u. ¬ P u) anything (λ u l. either_not (d u l)) s h)
 
   each_always : (P : ℕ → Type 0) → DecidedAt k P → DecidedAt k (λ s. OnEach k s (Always P))
   each_always P d s h =
       ⊎_elim
       (λ z. inr (λ each. z.2.1 (each z.0 z.1 z.2.0)))
       (λ no. inl (λ p way i. surely (d (p i) (path_inside k law s h p way i)) (λ n. no p way (i, n, λ j l. tt))))
-      (until_some k law Anything (λ u. P u → ⊥) anything (λ u l. either_not (d u l)) s h)
+      (until_some k law Anything (λ u. ¬ P u) anything (λ u l. either_not (d u l)) s h)
 
   pub decided_at : (f : Formula) → DecidedAt k (Holds k f)
   decided_at truth = anything

@@ -8,7 +8,7 @@ use Rattle.kripke.specs.Structure.{Member}
 
 -- A statement that holds or does not.
 abbrev pub Either : Type 0 → Type 0
-Either P = P ⊎ (P → ⊥)
+Either P = P ⊎ (¬ P)
 
 pub either_T : (x : Bool) → Either (T x)
 either_T true = inl tt
@@ -17,7 +17,7 @@ either_T false = inr (λ h. h)
 pub either_equal : (x y : Bool) → Either (x ≡ y)
 either_equal x y = elim (Bool-discrete x y) [ yes e ↦ inl e | no n ↦ inr n ]
 
-pub either_not : {P : Type 0} → Either P → Either (P → ⊥)
+pub either_not : {P : Type 0} → Either P → Either (¬ P)
 either_not (inl x) = inr (λ n. n x)
 either_not (inr n) = inl n
 
@@ -31,7 +31,7 @@ either_or (inl x) y = inl (inl x)
 either_or (inr n) (inl y) = inl (inr y)
 either_or (inr n) (inr m) = inr (⊎_elim n m)
 
-pub surely : {P : Type 0} → Either P → ((P → ⊥) → ⊥) → P
+pub surely : {P : Type 0} → Either P → (¬ (¬ P)) → P
 surely (inl x) h = x
 surely (inr n) h = absurd (h n)
 
@@ -64,17 +64,17 @@ below_or A B (suc n) h = go (h n (omega arith)) (below_or A B n (λ i l. h i (om
     go (inr y) rest = inr (n, omega arith, y)
 
 -- The least number as P says, up to one that is.
-pub least_of : (P : ℕ → Type 0) → ((i : ℕ) → Either (P i)) → (m n : ℕ) → n < m → P n → (k : ℕ) × (k ≤ n) × P k × ((j : ℕ) → j < k → P j → ⊥)
+pub least_of : (P : ℕ → Type 0) → ((i : ℕ) → Either (P i)) → (m n : ℕ) → n < m → P n → (k : ℕ) × (k ≤ n) × P k × ((j : ℕ) → j < k → ¬ P j)
 least_of P d zero n l x = absurd (omega arith)
-least_of P d (suc m) n l x = go (below_or (λ i. P i → ⊥) P n (λ i h. ⊎_elim inr inl (d i))) (λ i h y. least_of P d m i h y)
+least_of P d (suc m) n l x = go (below_or (λ i. ¬ P i) P n (λ i h. ⊎_elim inr inl (d i))) (λ i h y. least_of P d m i h y)
   where
-    go : ((i : ℕ) → i < n → P i → ⊥) ⊎ ((i : ℕ) × (i < n) × P i) → ((i : ℕ) → i < m → P i → (k : ℕ) × (k ≤ i) × P k × ((j : ℕ) → j < k → P j → ⊥))
-        → (k : ℕ) × (k ≤ n) × P k × ((j : ℕ) → j < k → P j → ⊥)
+    go : ((i : ℕ) → i < n → ¬ P i) ⊎ ((i : ℕ) × (i < n) × P i) → ((i : ℕ) → i < m → P i → (k : ℕ) × (k ≤ i) × P k × ((j : ℕ) → j < k → ¬ P j))
+        → (k : ℕ) × (k ≤ n) × P k × ((j : ℕ) → j < k → ¬ P j)
     go (inl no_less) on = (n, omega arith, x, no_less)
     go (inr z) on = let w = on z.0 (omega (arith, z.1)) z.2 in (w.0, omega (arith, w.1, z.1), w.2, w.3)
 
 -- Two labels agree on every question, or on one they do not.
-pub labels_or : (xs ys : List Bool) → ((i : ℕ) → get_or xs i false ≡ get_or ys i false) ⊎ ((i : ℕ) × (get_or xs i false ≡ get_or ys i false → ⊥))
+pub labels_or : (xs ys : List Bool) → ((i : ℕ) → get_or xs i false ≡ get_or ys i false) ⊎ ((i : ℕ) × (¬ get_or xs i false ≡ get_or ys i false))
 labels_or xs ys =
     ⊎_elim (λ all. inl (λ i. ⊎_elim (all i) (past i) (cases_lt i (length xs + length ys)))) (λ z. inr (z.0, z.2))
     (below_or (λ i. get_or xs i false ≡ get_or ys i false) _ (length xs + length ys) (λ i l. either_equal (get_or xs i false) (get_or ys i false)))

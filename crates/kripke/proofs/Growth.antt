@@ -25,7 +25,7 @@ count_mono P Q (suc n) c d (pass _ _ x p) (more _ d' y q) f = omega (arith, coun
 count_mono P Q (suc n) c d (pass _ _ x p) (pass _ _ y q) f = count_mono P Q n c d x y (λ i l. f i (omega arith))
 
 pub count_less : (P Q : ℕ → Type 0) (n c d : ℕ) → Count P n c → Count Q n d → ((i : ℕ) → i < n → P i → Q i)
-    → (i : ℕ) → i < n → Q i → (P i → ⊥) → c < d
+    → (i : ℕ) → i < n → Q i → (¬ P i) → c < d
 count_less P Q zero c d none none f i l new old = omega arith
 count_less P Q (suc n) c d (more _ c' x p) (more _ d' y q) f i l new old =
     elim (ℕ_discrete i n) [
@@ -63,18 +63,18 @@ module _ (P : ℕ → ℕ → Type 0) (n : ℕ) (d : (j i : ℕ) → i < n → E
   Rests j = (i : ℕ) → i < n → P (suc j) i → P j i
 
   abbrev Adds : ℕ → Type 0
-  Adds j = (i : ℕ) × (i < n) × (P (suc j) i × (P j i → ⊥))
+  Adds j = (i : ℕ) × (i < n) × (P (suc j) i × (¬ P j i))
 
   rests_or : (j : ℕ) → Rests j ⊎ Adds j
   rests_or j = below_or (λ i. P (suc j) i → P j i) _ n (λ i l. one i (d (suc j) i l) (d j i l))
     where
-      one : (i : ℕ) → Either (P (suc j) i) → Either (P j i) → (P (suc j) i → P j i) ⊎ (P (suc j) i × (P j i → ⊥))
+      one : (i : ℕ) → Either (P (suc j) i) → Either (P j i) → (P (suc j) i → P j i) ⊎ (P (suc j) i × (¬ P j i))
       one i x (inl y) = inl (λ h. y)
       one i (inl x) (inr y) = inr (x, y)
       one i (inr x) (inr y) = inl (λ h. absurd (x h))
 
   -- A step that adds nothing leaves the count, and any other makes it grow.
-  pub rests_or_grows : (j c e : ℕ) → Count (P j) n c → Count (P (suc j)) n e → (Rests j × (c ≡ e)) ⊎ ((Rests j → ⊥) × (c < e))
+  pub rests_or_grows : (j c e : ℕ) → Count (P j) n c → Count (P (suc j)) n e → (Rests j × (c ≡ e)) ⊎ ((¬ Rests j) × (c < e))
   rests_or_grows j c e x y =
       ⊎_elim
       (λ r. inl (r, count_same (P j) (P (suc j)) n c e x y (up j) r))
@@ -89,7 +89,7 @@ module _ (P : ℕ → ℕ → Type 0) (n : ℕ) (d : (j i : ℕ) → i < n → E
       let (e, l, y) = count_exists (P (suc j)) n (d (suc j)) in
       go e y (rests_or_grows j c e x y) (λ less. within m (suc j) e y less)
     where
-      go : (e : ℕ) → Count (P (suc j)) n e → (Rests j × (c ≡ e)) ⊎ ((Rests j → ⊥) × (c < e)) → (n ≤ e + m → (i : ℕ) × (i ≤ suc j + m) × Rests i)
+      go : (e : ℕ) → Count (P (suc j)) n e → (Rests j × (c ≡ e)) ⊎ ((¬ Rests j) × (c < e)) → (n ≤ e + m → (i : ℕ) × (i ≤ suc j + m) × Rests i)
           → (i : ℕ) × (i ≤ j + suc m) × Rests i
       go e y (inl z) on = (j, omega arith, z.0)
       go e y (inr z) on = let w = on (omega (arith, z.1)) in (w.0, omega (arith, w.1), w.2)

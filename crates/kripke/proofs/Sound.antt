@@ -15,7 +15,7 @@ same_answers a b zero s t h = h
 same_answers a b (suc k) s t h = same_answers a b k s t h.0
 
 -- A formula that two states agree on does not separate them.
-pub unseparated : (a b : Kripke) (s t : ℕ) (f : Formula) → Holds a f s ↔ Holds b f t → Separates a b s t f → ⊥
+pub unseparated : (a b : Kripke) (s t : ℕ) (f : Formula) → Holds a f s ↔ Holds b f t → ¬ Separates a b s t f
 unseparated a b s t f e (inl z) = z.1 (e.0 z.0)
 unseparated a b s t f e (inr z) = z.0 (e.1 z.1)
 
@@ -50,7 +50,7 @@ module _ (a b : Kripke) (la : Closed a) (lb : Closed b) where
   sound (AU f g) k s t hs ht h o n = absurd o
 
 -- So no such formula separates them, and one that does nests deeper.
-pub same_unseparated : (a b : Kripke) → Closed a → Closed b → (k s t : ℕ) → s < size a → t < size b → Same a b k s t → Separated a b k s t → ⊥
+pub same_unseparated : (a b : Kripke) → Closed a → Closed b → (k s t : ℕ) → s < size a → t < size b → Same a b k s t → ¬ Separated a b k s t
 same_unseparated a b la lb k s t hs ht h (f, o, n, z) = unseparated a b s t f (sound a b la lb f k s t hs ht h o n) z
 
 pub least_nesting : LeastNesting

@@ -3,7 +3,7 @@ use Rattle.std.proofs.Common.{◌≡◌, ℕ, zero, suc, ◌+◌, ◌-◌, ◌<�
 use Rattle.std.proofs.lemmas.List.{get_or_append_left, get_or_push, length_push}
 use Rattle.std.proofs.lemmas.Bool.{cases_lt}
 use Rattle.kripke.specs.Ctl.{Formula, truth}
-use Rattle.kripke.specs.Nodes.{Operator, constant, asking, unary, binary, operator, applied, made, grown, formulas, formula, root, Ordered, LawfulNode, WellFormed, blank}
+use Rattle.kripke.specs.Nodes.{Operator, constant, asking, unary, binary, operator, applied, made, grown, formulas, formula, root, Ordered, LawfulNode, WellFormed, blank_node}
 use Rattle.kripke.specs.declared.node.Node.{Node}
 
 grown-append : (fs : List Formula) (ns ms : List Node) → grown fs (ns ++ ms) ≡ grown (grown fs ns) ms
@@ -53,8 +53,8 @@ applied_same asking q i a b h fs gs e = refl
 applied_same (unary op) q i a b h fs gs e = ap op (e a h.0)
 applied_same (binary op) q i a b h fs gs e = ap₂ op (e a h.0) (e b h.1)
 
-grown_at : (q : ℕ) (fs : List Formula) (ns : List Node) (j i : ℕ) → length fs + j ≡ i → j < length ns → LawfulNode q i (get_or ns j blank)
-    → get_or (grown fs ns) i truth ≡ made (grown fs ns) (get_or ns j blank)
+grown_at : (q : ℕ) (fs : List Formula) (ns : List Node) (j i : ℕ) → length fs + j ≡ i → j < length ns → LawfulNode q i (get_or ns j blank_node)
+    → get_or (grown fs ns) i truth ≡ made (grown fs ns) (get_or ns j blank_node)
 unfolding grown
 grown_at q fs [] j i e l h = absurd (omega arith)
 grown_at q fs (n ∷ ns) zero i e l h =
@@ -64,7 +64,7 @@ grown_at q fs (n ∷ ns) zero i e l h =
 grown_at q fs (n ∷ ns) (suc j) i e l h = grown_at q (fs ++ made fs n ∷ []) ns j i (omega (arith, length_push fs (made fs n))) (omega arith) h
 
 -- In a well-formed table the formula of node i is its operator on the formulas of the nodes that it names.
-pub formula_at : (q : ℕ) (ns : List Node) → WellFormed q ns → (i : ℕ) → i < length ns → formula ns i ≡ made (formulas ns) (get_or ns i blank)
+pub formula_at : (q : ℕ) (ns : List Node) → WellFormed q ns → (i : ℕ) → i < length ns → formula ns i ≡ made (formulas ns) (get_or ns i blank_node)
 unfolding formulas
 formula_at q ns w i l = grown_at q [] ns i i (omega arith) l (w i l)
 
@@ -72,11 +72,11 @@ formula_at q ns w i l = grown_at q [] ns i i (omega arith) l (w i l)
 pub well_formed_push : (q : ℕ) (ns : List Node) (n : Node) → WellFormed q ns → LawfulNode q (length ns) n → WellFormed q (ns ++ n ∷ [])
 well_formed_push q ns n w h i l =
     ⊎_elim
-    (λ (b : i < length ns). rw (get_or_append_left ns (n ∷ []) blank i b) (w i b))
+    (λ (b : i < length ns). rw (get_or_append_left ns (n ∷ []) blank_node i b) (w i b))
     (λ (b : length ns ≤ i).
     let e : length ns ≡ i = omega (arith, length_push ns n) in
-    rw (get_or_push ns n blank i e, ← e) h)
+    rw (get_or_push ns n blank_node i e, ← e) h)
     (cases_lt i (length ns))
 
 pub well_formed_front : (q : ℕ) (ns ms : List Node) → WellFormed q (ns ++ ms) → WellFormed q ns
-well_formed_front q ns ms w i l = rw (get_or_append_left ns ms blank i l) at (w i (omega (arith, length-append ns ms)))
+well_formed_front q ns ms w i l = rw (get_or_append_left ns ms blank_node i l) at (w i (omega (arith, length-append ns ms)))

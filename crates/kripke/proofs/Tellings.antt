@@ -10,7 +10,7 @@ agree_all xs ys n p q h i =
 
 -- the first of n questions on which two labels of n answers differ is their telling question
 pub telling_found : (xs ys : List Bool) (n : ℕ) → length xs ≡ n → length ys ≡ n → (r : Option ℕ)
-    → MatchOption r ((k : ℕ) → 0 ≤ k → k < n → Agree xs ys k) (λ i. (0 ≤ i) × (i < n) × (Agree xs ys i → ⊥) × ((k : ℕ) → 0 ≤ k → k < i → Agree xs ys k))
+    → MatchOption r ((k : ℕ) → 0 ≤ k → k < n → Agree xs ys k) (λ i. (0 ≤ i) × (i < n) × (¬ Agree xs ys i) × ((k : ℕ) → 0 ≤ k → k < i → Agree xs ys k))
     → Telling xs ys r
 telling_found xs ys n p q None h = agree_all xs ys n p q (λ i w. h i (omega arith) w)
 telling_found xs ys n p q (Some i) h = (h.2, λ j w. h.3 j (omega arith) w)

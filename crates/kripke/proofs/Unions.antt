@@ -3,7 +3,7 @@ use Rattle.std.proofs.Common.{◌≡◌, ℕ, ◌+◌, ◌-◌, ◌<◌, ◌≤�
 use lib.ListN.{length-map}
 use Rattle.std.proofs.lemmas.List.{get_or_append_left, get_or-append_right, get_or_default, get_or-map}
 use Rattle.std.proofs.lemmas.Bool.{cases_lt}
-use Rattle.kripke.specs.Structure.{Kripke, State, Closed, Member, blank, answer, size, state, successors}
+use Rattle.kripke.specs.Structure.{Kripke, State, Closed, Member, blank_state, answer, size, state, successors}
 use Rattle.kripke.specs.Ctl.{Formula, Holds}
 use Rattle.kripke.specs.Rounds.{Same, Together, home, place, total}
 use Rattle.kripke.specs.Union.{moved, both}
@@ -28,13 +28,13 @@ module _ (a b : Kripke) where
   -- State i of the whole, below the first's size and from there on.
   pub both_first : (i : ℕ) → i < size a → state (both a b) i ≡ state a i
   both_first i l =
-      get_or_append_left a.states (map (moved (size a)) b.states) _ i l ∙ get_or_default a.states i _ (get_or a.states 0 blank) l
+      get_or_append_left a.states (map (moved (size a)) b.states) _ i l ∙ get_or_default a.states i _ (get_or a.states 0 blank_state) l
 
   pub both_second : (t : ℕ) → t < size b → state (both a b) (size a + t) ≡ moved (size a) (state b t)
   both_second t l =
       let e : size a + t - size a ≡ t = omega arith in
       get_or-append_right a.states (map (moved (size a)) b.states) (size a) (size a + t) _ refl (omega arith)
-      ∙ (ap (λ (j : ℕ). get_or (map (moved (size a)) b.states) j (get_or (both a b).states 0 blank)) e ∙ get_or-map (moved (size a)) b.states t (get_or b.states 0 blank) _ l)
+      ∙ (ap (λ (j : ℕ). get_or (map (moved (size a)) b.states) j (get_or (both a b).states 0 blank_state)) e ∙ get_or-map (moved (size a)) b.states t (get_or b.states 0 blank_state) _ l)
 
   module _ (la : Closed a) (lb : Closed b) where
     first_bisim : Bisim a (both a b) (λ s i. (s < size a) × (s ≡ i))

@@ -13,7 +13,7 @@ DecidedAt k P = (s : ℕ) → s < size k → Either (P s)
 pub some_decided : (k : Kripke) → Closed k → (P : ℕ → Type 0) → DecidedAt k P → DecidedAt k (λ s. (u : ℕ) × Member u (successors k s) × P u)
 some_decided k law P d s h =
     ⊎_elim (λ all. inr (λ z. all z.0 z.1 z.2)) inl
-    (each_or_some (λ u. P u → ⊥) P (successors k s) (λ u m. ⊎_elim inr inl (d u (law.inside s u h m))))
+    (each_or_some (λ u. ¬ P u) P (successors k s) (λ u m. ⊎_elim inr inl (d u (law.inside s u h m))))
 
 pub every_decided : (k : Kripke) → Closed k → (P : ℕ → Type 0) → DecidedAt k P → DecidedAt k (λ s. (u : ℕ) → Member u (successors k s) → P u)
 every_decided k law P d s h =
@@ -84,14 +84,14 @@ module _ (k : Kripke) (law : Closed k) (P Q : ℕ → Type 0) (d_p : DecidedAt k
 
   -- From outside of what has come to rest no path comes to Q.
   can_out : (j : ℕ) → ((s : ℕ) → s < size k → Can (suc j) s → Can j s)
-      → (n s : ℕ) → s < size k → (Can j s → ⊥) → (p : ℕ → ℕ) → Path k s p → Q (p n) → ((i : ℕ) → i < n → P (p i)) → ⊥
+      → (n s : ℕ) → s < size k → (¬ Can j s) → (p : ℕ → ℕ) → Path k s p → Q (p n) → ¬ ((i : ℕ) → i < n → P (p i))
   can_out j rest zero s h out p way q before = out (can_from j s (subst Q way.starts q))
   can_out j rest (suc n) s h out p way q before =
       let m = second k s p way in
       can_out j rest n (p 1) (law.inside s (p 1) h m) (λ c. out (rest s h (inr (subst P way.starts (before 0 (omega arith)), (p 1, m, c)))))
       (λ i. p (suc i)) (tail_path k s p way) q (λ i l. before (suc i) (omega arith))
 
-  pub until_some : (s : ℕ) → s < size k → OnSome k s (Until P Q) ⊎ ((p : ℕ → ℕ) → Path k s p → Until P Q p → ⊥)
+  pub until_some : (s : ℕ) → s < size k → OnSome k s (Until P Q) ⊎ ((p : ℕ → ℕ) → Path k s p → ¬ Until P Q p)
   until_some s h =
       let (j, rest) = can_rest in
       ⊎_elim (λ c. inl (can_in j s h c)) (λ out. inr (λ p way goes. can_out j rest goes.0 s h out p way goes.1 goes.2)) (can_decided j s h)
@@ -99,7 +99,7 @@ module _ (k : Kripke) (law : Closed k) (P Q : ℕ → Type 0) (d_p : DecidedAt k
   -- From outside of what has come to rest a path that stays outside, as long as it can, does not come to Q by way of P.
   module _ (j : ℕ) (rest : (s : ℕ) → s < size k → Must (suc j) s → Must j s) where
     abbrev onward : (s : ℕ) → s < size k
-        → (u : ℕ) × Member u (successors k s) × (((v : ℕ) → Member v (successors k s) → Must j v) ⊎ (Must j u → ⊥))
+        → (u : ℕ) × Member u (successors k s) × (((v : ℕ) → Member v (successors k s) → Must j v) ⊎ (¬ Must j u))
     onward s h =
         ⊎_elim (λ all. (first (successors k s), first_member (successors k s) (law.onward s h), inl all)) (λ z. (z.0, z.1, inr z.2))
         (each_or_some (Must j) _ (successors k s) (λ v m. must_decided j v (law.inside s v h m)))
@@ -107,7 +107,7 @@ module _ (k : Kripke) (law : Closed k) (P Q : ℕ → Type 0) (d_p : DecidedAt k
     abbrev next : Choice k
     next s h = ((onward s h).0, (onward s h).1)
 
-    must_out : (n s : ℕ) (h : s < size k) → (Must j s → ⊥) → Q (walk k law next s h n) → ((i : ℕ) → i < n → P (walk k law next s h i)) → ⊥
+    must_out : (n s : ℕ) (h : s < size k) → (¬ Must j s) → Q (walk k law next s h n) → ¬ ((i : ℕ) → i < n → P (walk k law next s h i))
     unfolding walk
     must_out zero s h out q before = out (must_from j s q)
     must_out (suc n) s h out q before =
@@ -116,7 +116,7 @@ module _ (k : Kripke) (law : Closed k) (P Q : ℕ → Type 0) (d_p : DecidedAt k
         (λ out'. must_out n (onward s h).0 (law.inside s (onward s h).0 h (onward s h).1) out' q (λ i l. before (suc i) (omega arith)))
         (onward s h).2
 
-  pub until_each : (s : ℕ) → s < size k → OnEach k s (Until P Q) ⊎ OnSome k s (λ p. Until P Q p → ⊥)
+  pub until_each : (s : ℕ) → s < size k → OnEach k s (Until P Q) ⊎ OnSome k s (λ p. ¬ Until P Q p)
   until_each s h =
       let (j, rest) = must_rest in
       ⊎_elim (λ c. inl (must_in j s h c)) (λ out. inr (walk k law (next j rest) s h, walk_path k law (next j rest) s h, λ goes. must_out j rest goes.0 s h out goes.1 goes.2)) (must_decided j s h)

@@ -10,7 +10,7 @@ use Rattle.kripke.specs.Union.{both}
 pub data Count (P : ℕ → Type 0) : ℕ → ℕ → Type 0 where
   none : Count P 0 0
   more : (n c : ℕ) → Count P n c → P n → Count P (suc n) (suc c)
-  pass : (n c : ℕ) → Count P n c → (P n → ⊥) → Count P (suc n) c
+  pass : (n c : ℕ) → Count P n c → ¬ P n → Count P (suc n) c
 
 -- There are c classes after k rounds: c of the numbers are their own class number.
 abbrev pub Classes : Kripke → Kripke → ℕ → ℕ → Type 0

@@ -39,7 +39,7 @@ Anything _ = Unit {0}
 abbrev pub Holds : Kripke → Formula → ℕ → Type 0
 Holds k truth s = Unit {0}
 Holds k (question i) s = answer k s i ≡ true
-Holds k (not f) s = Holds k f s → ⊥
+Holds k (not f) s = ¬ Holds k f s
 Holds k (and f g) s = Holds k f s × Holds k g s
 Holds k (or f g) s = Holds k f s ⊎ Holds k g s
 Holds k (EX f) s = OnSome k s (Next (Holds k f))

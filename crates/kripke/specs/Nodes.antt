@@ -57,17 +57,17 @@ abbrev pub LawfulNode : ℕ → ℕ → Node → Type 0
 LawfulNode q i n = (n.code < length operators) × Ordered (operator n) q i n.a n.b
 
 -- Every node of the table is in order.
-abbrev pub blank : Node
-blank = record { code = 0; a = 0; b = 0 }
+abbrev pub blank_node : Node
+blank_node = record { code = 0; a = 0; b = 0 }
 
 abbrev pub WellFormed : ℕ → List Node → Type 0
-WellFormed q ns = (i : ℕ) → i < length ns → LawfulNode q i (slice_index_or ns i blank)
+WellFormed q ns = (i : ℕ) → i < length ns → LawfulNode q i (slice_index_or ns i blank_node)
 
 -- The first node that is not in order; none where every node is.
 abbrev pub FirstDisordered : ℕ → List Node → Option ℕ → Type 0
 FirstDisordered q ns None = WellFormed q ns
 FirstDisordered q ns (Some i) =
-    (i < length ns) × ((LawfulNode q i (slice_index_or ns i blank) → ⊥) × ((j : ℕ) → j < i → LawfulNode q j (slice_index_or ns j blank)))
+    (i < length ns) × (¬ LawfulNode q i (slice_index_or ns i blank_node) × ((j : ℕ) → j < i → LawfulNode q j (slice_index_or ns j blank_node)))
 
 -- The code of each operator, which is its place among the operators.
 abbrev pub code_of : code.Operator → ℕ

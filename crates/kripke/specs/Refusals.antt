@@ -60,27 +60,35 @@ Before d q c p = (number_of d < number_of c) ⊎ ((number_of d ≡ number_of c) 
 
 -- No rule is broken.
 abbrev pub Clean : Rules → Type 0
-Clean V = (c : Cause) (p : ℕ) → V c p → ⊥
+Clean broken = (c : Cause) (p : ℕ) → ¬ broken c p
 
 -- The refusal tells a breach, and no breach is told before it.
-pub record FirstBy (Sooner : Order) (V : Rules) (layer : Layer) (e : Refusal) : Type 0 where
-  pub broken : V e.cause e.place
-  pub least : (d : Cause) (q : ℕ) → Sooner d q e.cause e.place → V d q → ⊥
+pub record FirstBreachBy (Sooner : Order) (Broken : Rules) (layer : Layer) (e : Refusal) : Type 0 where
+  pub broken : Broken e.cause e.place
+  pub least : (d : Cause) (q : ℕ) → Sooner d q e.cause e.place → ¬ Broken d q
   pub layered : e.layer ≡ layer
 
-abbrev pub First : Rules → Layer → Refusal → Type 0
-First = FirstBy Before
+abbrev pub FirstBreach : Rules → Layer → Refusal → Type 0
+FirstBreach = FirstBreachBy Before
 
--- A call on an input with these breaches: with none it gives a good value; else it gives the first as a refusal, and then Same holds (nothing has changed).
-abbrev pub JudgedBy : {X : Type 0} → Order → Rules → Layer → (X → Type 0) → Type 0 → Result X Refusal → Type 0
-JudgedBy Sooner V layer Good Same (Ok x) = Clean V × Good x
-JudgedBy Sooner V layer Good Same (Err e) = FirstBy Sooner V layer e × Same
+-- What is promised of a call that may refuse: the rules that its input breaks, the layer that tells them, what holds of a value that it gives,
+-- and what holds after a refusal (that nothing has changed).
+pub record Judgement (X : Type 0) : Type 1 where
+  pub breaches : Rules
+  pub layer : Layer
+  pub accepted : X → Type 0
+  pub refused : Type 0
 
-abbrev pub Judged : {X : Type 0} → Rules → Layer → (X → Type 0) → Type 0 → Result X Refusal → Type 0
+-- An input that breaks no rule is accepted; for any other the first breach is told.
+abbrev pub JudgedBy : {X : Type 0} → Order → Result X Refusal → Judgement X → Type 0
+JudgedBy Sooner (Ok x) j = Clean j.breaches × j.accepted x
+JudgedBy Sooner (Err e) j = FirstBreachBy Sooner j.breaches j.layer e × j.refused
+
+abbrev pub Judged : {X : Type 0} → Result X Refusal → Judgement X → Type 0
 Judged = JudgedBy Before
 
--- The same of a call that allocates. Want of memory is met only by an input with no breach, and changes nothing either.
-abbrev pub JudgedInMemory : {X : Type 0} → Rules → Layer → (X → Type 0) → Type 0 → Result X Error → Type 0
-JudgedInMemory V layer Good Same (Ok x) = Clean V × Good x
-JudgedInMemory V layer Good Same (Err (Refused e)) = First V layer e × Same
-JudgedInMemory V layer Good Same (Err Memory) = Clean V × Same
+-- The same of a call that allocates. Want of memory is met only by an input that breaks no rule, and changes nothing either.
+abbrev pub JudgedInMemory : {X : Type 0} → Result X Error → Judgement X → Type 0
+JudgedInMemory (Ok x) j = Clean j.breaches × j.accepted x
+JudgedInMemory (Err (Refused e)) j = FirstBreach j.breaches j.layer e × j.refused
+JudgedInMemory (Err Memory) j = Clean j.breaches × j.refused

@@ -15,7 +15,7 @@ Same a b (suc k) s t = Same a b k s t × Matched (λ u v. Same a b k u v) a b s 
 
 -- The formula holds at one of the two states and fails at the other.
 abbrev pub Separates : Kripke → Kripke → ℕ → ℕ → Formula → Type 0
-Separates a b s t f = (Holds a f s × (Holds b f t → ⊥)) ⊎ ((Holds a f s → ⊥) × Holds b f t)
+Separates a b s t f = (Holds a f s × ¬ Holds b f t) ⊎ (¬ Holds a f s × Holds b f t)
 
 -- Some CTL formula, of any size, separates the two states.
 abbrev pub Apart : Kripke → Kripke → ℕ → ℕ → Type 0
@@ -41,7 +41,7 @@ Together a b k i j = Same (home a b i) (home a b j) k (place a b i) (place a b j
 
 -- No next-only formula of nesting k or less separates the two numbered states.
 abbrev pub Inseparable : Kripke → Kripke → ℕ → ℕ → ℕ → Type 0
-Inseparable a b k i j = Separated (home a b i) (home a b j) k (place a b i) (place a b j) → ⊥
+Inseparable a b k i j = ¬ Separated (home a b i) (home a b j) k (place a b i) (place a b j)
 
 -- The class number: the least number together with i.
 pub record ClassOf (a b : Kripke) (k i c : ℕ) : Type 0 where
@@ -54,7 +54,7 @@ Settled a b k = (i j : ℕ) → i < total a b → j < total a b → Together a b
 
 -- The closing rule, after k rounds: as different when the initial states are not together, as alike when they are and the last round split nothing.
 abbrev pub ClosedDifferent : Kripke → Kripke → ℕ → Type 0
-ClosedDifferent a b k = Same a b k a.initial b.initial → ⊥
+ClosedDifferent a b k = ¬ Same a b k a.initial b.initial
 
 abbrev pub ClosedAlike : Kripke → Kripke → ℕ → Type 0
 ClosedAlike a b zero = ⊥
@@ -65,4 +65,4 @@ abbrev pub ClosedAfter : Kripke → Kripke → ℕ → Type 0
 ClosedAfter a b k = ClosedDifferent a b k ⊎ ClosedAlike a b k
 
 abbrev pub FirstClosed : Kripke → Kripke → ℕ → Type 0
-FirstClosed a b k = ClosedAfter a b k × ((j : ℕ) → j < k → ClosedAfter a b j → ⊥)
+FirstClosed a b k = ClosedAfter a b k × ((j : ℕ) → j < k → ¬ ClosedAfter a b j)

@@ -11,19 +11,19 @@ pub record Kripke : Type 0 where
   pub initial : ℕ
   pub states : List State
 
--- What stands at a place of a list, and past its end what stands first.
+-- What stands at a place of a list, and past its end what stands first; of an empty list the default.
 abbrev pub or_first : {X : Type 0} → List X → ℕ → X → X
-or_first xs i none = slice_index_or xs i (slice_index_or xs 0 none)
+or_first xs i default = slice_index_or xs i (slice_index_or xs 0 default)
 
 -- The number of states; state s, and past the last one state 0; its successors; its answer to question i, no past the last question.
 abbrev pub size : Kripke → ℕ
 size k = length k.states
 
-abbrev pub blank : State
-blank = record { answers = []; next = [] }
+abbrev pub blank_state : State
+blank_state = record { answers = []; next = [] }
 
 abbrev pub state : Kripke → ℕ → State
-state k s = or_first k.states s blank
+state k s = or_first k.states s blank_state
 
 abbrev pub successors : Kripke → ℕ → List ℕ
 successors k s = (state k s).next

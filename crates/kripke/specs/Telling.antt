@@ -8,4 +8,4 @@ Agree xs ys i = slice_index_or xs i false ≡ slice_index_or ys i false
 -- The least question that two labels answer differently; none exactly when they agree on every question.
 abbrev pub Telling : List Bool → List Bool → Option ℕ → Type 0
 Telling xs ys None = (i : ℕ) → Agree xs ys i
-Telling xs ys (Some i) = (Agree xs ys i → ⊥) × ((j : ℕ) → j < i → Agree xs ys j)
+Telling xs ys (Some i) = ¬ Agree xs ys i × ((j : ℕ) → j < i → Agree xs ys j)

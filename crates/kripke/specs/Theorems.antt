@@ -10,7 +10,7 @@ use Rattle.kripke.specs.Classes.{Classes}
 -- Two states are the same after k rounds exactly when no next-only formula of nesting k or less separates them.
 abbrev pub SameWhenInseparable : Type 0
 SameWhenInseparable = (a b : Kripke) → Closed a → Closed b → (k s t : ℕ) → s < size a → t < size b
-    → Same a b k s t ↔ (Separated a b k s t → ⊥)
+    → Same a b k s t ↔ ¬ Separated a b k s t
 
 -- Two states are the same after k rounds, or here is a next-only formula of nesting k or less that separates them.
 abbrev pub SameOrSeparated : Type 0
@@ -30,7 +30,7 @@ SettledAgree = (a b : Kripke) → Closed a → Closed b → (k : ℕ) → Settle
 -- Some CTL formula separates two states exactly when some round tells them apart;
 abbrev pub ApartByRounds : Type 0
 ApartByRounds = (a b : Kripke) → Closed a → Closed b → (s t : ℕ) → s < size a → t < size b
-    → Apart a b s t ↔ ((k : ℕ) × (Same a b k s t → ⊥))
+    → Apart a b s t ↔ ((k : ℕ) × ¬ Same a b k s t)
 
 -- so some CTL formula separates the initial states of two models exactly when some round closes their comparison as different.
 abbrev pub ModelsApart : Type 0
@@ -48,9 +48,9 @@ ClosesInTime = (q : ℕ) (a b : Kripke) → Lawful q a → Lawful q b → (k : �
 
 -- What closing means: as alike, that no CTL formula of any size separates the initial states;
 abbrev pub AlikeAgree : Type 0
-AlikeAgree = (q : ℕ) (a b : Kripke) → Lawful q a → Lawful q b → (k : ℕ) → ClosedAlike a b k → Apart a b a.initial b.initial → ⊥
+AlikeAgree = (q : ℕ) (a b : Kripke) → Lawful q a → Lawful q b → (k : ℕ) → ClosedAlike a b k → ¬ Apart a b a.initial b.initial
 
--- as different, that a next-only formula of nesting k separates them, and none that nests less deep.
+-- as different, that a next-only formula of nesting k separates them, and no next-only formula that does nests less deep.
 abbrev pub DifferentSeparated : Type 0
 DifferentSeparated = (q : ℕ) (a b : Kripke) → Lawful q a → Lawful q b → (k : ℕ) → FirstClosed a b k → ClosedDifferent a b k
     → ((f : Formula) × NextOnly f × (nesting f ≡ k) × Separates a b a.initial b.initial f)
@@ -63,11 +63,11 @@ ClassesCounted = (a b : Kripke) (k : ℕ) → (c : ℕ) × (c ≤ total a b) × 
 -- a round that splits nothing leaves it, and any other makes it grow.
 abbrev pub ClassesGrow : Type 0
 ClassesGrow = (a b : Kripke) (k c d : ℕ) → Classes a b k c → Classes a b (suc k) d
-    → (Settled a b k × (c ≡ d)) ⊎ ((Settled a b k → ⊥) × (c < d))
+    → (Settled a b k × (c ≡ d)) ⊎ (¬ Settled a b k × (c < d))
 
 -- Every formula is decided at every state.
 abbrev pub Decided : Type 0
-Decided = (k : Kripke) → Closed k → (f : Formula) (s : ℕ) → s < size k → Holds k f s ⊎ (Holds k f s → ⊥)
+Decided = (k : Kripke) → Closed k → (f : Formula) (s : ℕ) → s < size k → Holds k f s ⊎ ¬ Holds k f s
 
 -- The test of the rounds answers yes exactly for states that are the same.
 abbrev pub TestReflects : Type 0

@@ -3,19 +3,23 @@ ghost use Rattle.std.specs.Prelude.{◌≡◌, MatchBool};
 
 use crate::operator::Operator;
 
-// A table has no more nodes than a comparison's formula can have.
+/// The most nodes that a table may have where one is evaluated, read or reported: as many as the formula of a comparison can have.
 pub const MOST_NODES: usize = 2045;
 
-// One node of a formula's table: an operator's code and its two numbers, which name a question or earlier nodes.
+/// One node of a formula's table: an operator's code, and two numbers that name a question or earlier nodes of the table. A number that is not used is 0.
+/// The last node of a table is its root. docs/FORMATS.md, "The node table", has the codes.
 #[derive(Clone, Copy, PartialEq, Eq, Debug, Default)]
 pub struct Node {
+    /// The code of the operator, 0 to 12 in a node that is in order.
     pub code: u8,
+    /// The question, or the place of the first operand.
     pub a: u16,
+    /// The place of the second operand.
     pub b: u16,
 }
 
 impl Node {
-    // The node of an operator and its two numbers.
+    /// The node of an operator and its two numbers. They are not looked at: whether the node is in order, a table and a place decide.
     pub fn new(operator: Operator, a: u16, b: u16) -> Node
         ensures { result ≡ record { code = code_of operator; a = a; b = b } }
     {
@@ -26,9 +30,10 @@ impl Node {
         }
     }
 
-    // Whether the node is in order as node i of a table on so many questions.
+    /// Whether the node is in order as node `i`, counted from 0, of a table on so many questions: the code is an operator's, a question is below `questions`,
+    /// a node that is named is before `i`, and a number that is not used is 0.
     pub fn in_order(self, questions: usize, i: usize) -> bool
-        ensures { MatchBool result (LawfulNode questions i self) (LawfulNode questions i self → ⊥) }
+        ensures { MatchBool result (LawfulNode questions i self) (¬ LawfulNode questions i self) }
     {
         let (a, b) = (self.a as usize, self.b as usize);
         match Operator::try_from(self.code) {
@@ -41,7 +46,7 @@ impl Node {
     }
 }
 
-// The first node of a table that is not in order; none exactly when all are.
+/// The place of the first node of a table that is not in order for so many questions; none exactly when all are. It looks at the nodes alone: a table may have any length, also none.
 pub fn first_disordered(nodes: &[Node], questions: usize) -> Option<usize>
     ensures { FirstDisordered questions nodes.now result }
 {

@@ -1,28 +1,42 @@
 ghost use Rattle.kripke.specs.Nodes.{Decodes, code_of};
 ghost use Rattle.std.specs.Prelude.{◌≡◌};
 
-// The operators of formulas, each at the place of its code.
+/// The operators of CTL formulas, each at the place of its code, 0 to 12. docs/LOGIC.md, "Formulas", says what each means.
 #[derive(Clone, Copy, PartialEq, Eq, Debug)]
 pub enum Operator {
+    /// True.
     Truth,
+    /// A question of the label.
     Question,
+    /// Not f.
     Not,
+    /// f and g.
     And,
+    /// f or g.
     Or,
+    /// f at the next state of some path.
     EX,
+    /// f at the next state of each path.
     AX,
+    /// f at some state of some path.
     EF,
+    /// f at some state of each path.
     AF,
+    /// f at every state of some path.
     EG,
+    /// f at every state of each path.
     AG,
+    /// f until g, on some path.
     EU,
+    /// f until g, on each path.
     AU,
 }
 
-// A code that is no operator's.
+/// A code that is no operator's: 13 or more.
 #[derive(Clone, Copy, PartialEq, Eq, Debug)]
 pub struct UnknownCode(pub u8);
 
+/// The code of an operator.
 impl From<Operator> for u8 {
     ghost from_gives = { λ operator code. code ≡ code_of operator };
 
@@ -31,6 +45,7 @@ impl From<Operator> for u8 {
     }
 }
 
+/// The operator that has a code; the error tells a code that none has.
 impl TryFrom<u8> for Operator {
     type Error = UnknownCode;
 

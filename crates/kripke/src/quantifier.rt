@@ -1,15 +1,17 @@
 ghost use Rattle.kripke.specs.Quantifiers.{dual};
 ghost use Rattle.std.specs.Prelude.{◌≡◌};
 
-// The path quantifiers of CTL: E, on some path, and A, on each path.
+/// The path quantifiers of CTL.
 #[derive(Clone, Copy, PartialEq, Eq, Debug)]
 pub enum Quantifier {
+    /// E: on some path.
     Exists,
+    /// A: on each path.
     ForAll,
 }
 
 impl Quantifier {
-    // The quantifier that tells of the negation.
+    /// The other quantifier, which tells of the negation: where a formula does not hold on some path, its negation holds on each.
     pub fn dual(self) -> Quantifier
         ensures { result ≡ dual self }
     {

@@ -1,23 +1,27 @@
 ghost use Rattle.labels.specs.Kinds.{Coding, kind_number};
 ghost use Rattle.std.specs.Option.{option_map};
-ghost use Rattle.std.specs.Prelude.{◌≡◌, Some};
+ghost use Rattle.std.specs.Prelude.{◌≡◌, ℕ, List, Some, IfSome};
 
 use crate::kind::Kind;
 use kripke::label::Label;
 
-// A label kind that images hold, four bytes a label.
-pub trait Coded: Label {
+/// A label kind that stored images hold, four bytes a label (docs/FORMATS.md, "Labels").
+pub trait Coded: Label + Copy {
     ghost coding: { Coding };
 
-    // The kind that an image's header names.
+    ghost codes: { List ℕ → Self → Type 0 };
+
+    /// The kind, whose number an image of such labels has as its first byte.
     fn kind() -> Kind
         ensures { kind_number result ≡ coding.kind };
 
-    // The label that the bytes code, if they code one.
+    /// The label that the four bytes code; none where they code none, which loading an image refuses by 4.
     fn decode(bytes: [u8; 4]) -> Option<Self>
-        ensures { option_map Self.Label.answers result ≡ coding.decoded bytes };
+        ensures answers { option_map Self.Label.answers result ≡ coding.decoded bytes }
+        ensures coded { IfSome result (λ label. codes bytes label) };
 
-    // The label of a fresh holder.
+    /// The label of the one state that a fresh holder has.
     fn fresh() -> Self
-        ensures { Some (Self.Label.answers result) ≡ coding.decoded coding.fresh };
+        ensures answers { Some (Self.Label.answers result) ≡ coding.decoded coding.fresh }
+        ensures coded { codes coding.fresh result };
 }

@@ -3,19 +3,22 @@ ghost use Rattle.std.specs.Prelude.{◌≡◌, Some};
 
 use std::fmt;
 
-// The kinds of labels that images hold, by their numbers in an image.
+/// The kinds of labels that images hold. The number of a kind is the first byte of an image (docs/FORMATS.md, "Labels").
 #[derive(Clone, Copy, PartialEq, Eq, Debug)]
 pub enum Kind {
+    /// Kind 1, 32 questions.
     SignalWords = 1,
+    /// Kind 2, 3 questions.
     Readings,
 }
 
-// A number that is no kind's.
+/// A number that is no kind's: neither 1 nor 2.
 #[derive(Clone, Copy, PartialEq, Eq, Debug)]
 pub struct UnknownKind(pub u8);
 
 impl Kind {
-    // The kind that an image's first byte names; signal words where it names none, since they refuse such an image.
+    /// The kind that an image names by its first byte. An image that names none is given to signal words, which refuse it:
+    /// by 1 where it is shorter than a header, else by 2 at place 0.
     pub fn of_image(image: &[u8]) -> Kind
         ensures { result ≡ named image.now }
     {

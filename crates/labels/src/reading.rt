@@ -1,5 +1,4 @@
-ghost use Rattle.std.specs.Option.{option_map};
-ghost use Rattle.std.specs.Prelude.{◌≡◌, ◌<◌, Some, IfSome, MatchOption};
+ghost use Rattle.std.specs.Prelude.{◌≡◌, ◌<◌, MatchOption};
 ghost use Rattle.labels.specs.Bands.{shows};
 ghost use Rattle.labels.specs.Kinds.{bands, readings, stored};
 ghost use Rattle.std.proofs.Common.{rules};
@@ -8,7 +7,10 @@ use crate::coded::Coded;
 use crate::kind::Kind;
 use kripke::label::Label;
 
-// A detector's level and its limits, which rise from fault to alarm.
+/// What a detector shows: its level and its limits, each 0 to 255. The limits rise: fault below pre-alarm below alarm.
+///
+/// Three questions: 0, fault, is the level at most the fault limit; 1, pre-alarm, is it at least the pre-alarm limit;
+/// 2, alarm, is it at least the alarm limit (docs/FORMATS.md, "Labels").
 #[derive(Clone, Copy, PartialEq, Eq, Debug)]
 pub struct Reading {
     level: u8,
@@ -32,9 +34,9 @@ enum Band {
 }
 
 impl Reading {
-    // The reading of these values; none exactly where the limits do not rise.
+    /// The reading of a level and its limits; none exactly where the limits do not rise. Every level is taken.
     pub fn new(level: u8, fault: u8, pre_alarm: u8, alarm: u8) -> Option<Reading>
-        ensures { MatchOption result (fault < pre_alarm → pre_alarm < alarm → ⊥) (λ x. (x.level ≡ level) × (x.fault ≡ fault) × (x.pre_alarm ≡ pre_alarm) × (x.alarm ≡ alarm)) }
+        ensures { MatchOption result (¬ ((fault < pre_alarm) × (pre_alarm < alarm))) (λ x. (x.level ≡ level) × (x.fault ≡ fault) × (x.pre_alarm ≡ pre_alarm) × (x.alarm ≡ alarm)) }
     {
         if fault < pre_alarm && pre_alarm < alarm {
             Some(Reading {
@@ -80,10 +82,10 @@ impl Label for Reading {
     }
 
     fn answer(&self, i: usize) -> bool {
-        match i {
-            0 => self.level <= self.fault,
-            1 => self.level >= self.pre_alarm,
-            2 => self.level >= self.alarm,
+        match (i, self.band()) {
+            (0, Band::Fault) => true,
+            (1, Band::PreAlarm | Band::Alarm) => true,
+            (2, Band::Alarm) => true,
             _ => false,
         }
     }
@@ -104,21 +106,17 @@ impl Label for Reading {
 impl Coded for Reading {
     ghost coding = { readings };
 
+    ghost codes = { λ bytes x. stored x.level x.fault x.pre_alarm x.alarm ≡ bytes };
+
     fn kind() -> Kind {
         Kind::Readings
     }
 
-    fn decode(bytes: [u8; 4]) -> Option<Reading>
-        ensures answers { option_map (λ x. bands x.level x.fault x.pre_alarm x.alarm) result ≡ readings.decoded bytes }
-        ensures bytes { IfSome result (λ x. stored x.level x.fault x.pre_alarm x.alarm ≡ bytes) }
-    {
+    fn decode(bytes: [u8; 4]) -> Option<Reading> {
         Reading::new(bytes[0], bytes[1], bytes[2], bytes[3])
     }
 
-    fn fresh() -> Reading
-        ensures answers { Some (bands result.level result.fault result.pre_alarm result.alarm) ≡ readings.decoded readings.fresh }
-        ensures bytes { stored result.level result.fault result.pre_alarm result.alarm ≡ readings.fresh }
-    {
+    fn fresh() -> Reading {
         Reading {
             level: 0,
             fault: 0,

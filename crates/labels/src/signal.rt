@@ -1,4 +1,5 @@
-ghost use Rattle.labels.specs.Kinds.{bits, words};
+ghost use Rattle.labels.specs.Kinds.{bits, word, words};
+ghost use Rattle.std.specs.Prelude.{◌≡◌};
 ghost use Rattle.labels.specs.Words.{length-bits};
 ghost use Rattle.std.proofs.Common.{rules};
 
@@ -6,7 +7,8 @@ use crate::coded::Coded;
 use crate::kind::Kind;
 use kripke::label::Label;
 
-// A word of 32 signals: question i is yes exactly when the bit of value 2^i is 1.
+/// What shows at a panel: 32 signals in a word. Question i, 0 to 31, is answered yes exactly when the bit of value 2^i is 1
+/// (docs/FORMATS.md, "Labels").
 #[derive(Clone, Copy, PartialEq, Eq, Debug)]
 pub struct SignalWord(pub u32);
 
@@ -36,6 +38,8 @@ impl Label for SignalWord {
 
 impl Coded for SignalWord {
     ghost coding = { words };
+
+    ghost codes = { λ bytes w. w.0 ≡ word bytes };
 
     fn kind() -> Kind {
         Kind::SignalWords

@@ -34,7 +34,7 @@ pub(crate) fn report_models<L: Label, M: Model<Label = L>, N: Model<Label = L>>(
 ) -> Result<Vec<u8>, Error>
     ensures { Reported L.Label.count (M.Model.meaning first.now) (N.Model.meaning second.now) result }
 {
-    let mut comparison = Comparison::open(heap, first, second)?;
+    let mut comparison = Comparison::open(first, second);
     comparison.close();
     report_text(heap, report(&comparison)?)
 }

@@ -1,9 +1,9 @@
 // The commands of a file, a line each.
-use crate::command;
 use crate::failure::Failure;
+use crate::words::shown;
+use crate::{command, input};
 use std::alloc::AllocError;
 use std::fmt::Write;
-use std::fs;
 
 // Adds the words of a line. What stands between double quotes is one word.
 fn push_words<'a>(words: &mut Vec<&'a str>, line: &'a str) -> Result<(), AllocError> {
@@ -24,7 +24,9 @@ fn push_answer(rt: &HostRuntime, out: &mut String, line: &str) -> Result<(), All
     if words.is_empty() {
         return Ok(());
     }
-    match command::run(rt, words.as_slice()) {
+    let answer = command::run(rt, words.as_slice());
+    let line = shown(rt.alloc(), line)?;
+    match answer {
         Ok(text) => write!(out, "> {line}\n{text}"),
         Err(failure) => write!(out, "> {line}\n{failure}"),
     }
@@ -32,7 +34,7 @@ fn push_answer(rt: &HostRuntime, out: &mut String, line: &str) -> Result<(), All
 
 // What the commands of a file answer, each below its line.
 pub(crate) fn run(rt: &HostRuntime, path: &str) -> Result<String, Failure> {
-    let commands = fs::read_to_string(rt, path)?;
+    let commands = input::commands(rt, path)?;
     let mut out = String::new(rt.alloc());
     for line in commands.lines() {
         push_answer(rt, &mut out, line)?;

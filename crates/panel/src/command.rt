@@ -2,24 +2,25 @@
 use crate::failure::Failure;
 use crate::task::Task;
 use crate::usage::{BATCH, CHECK, COMPARE, RULES, SHOW, USAGE};
-use crate::{difference, task};
+use crate::words::shown;
+use crate::{difference, input, task};
 use rules::rule::Rule;
 use std::alloc::Global;
-use std::fs;
 use std::str::Split;
 
-// The number that is the word at a place. One that is missing is an empty word, as the tool tells it.
-fn number(heap: Global, words: &[&str], place: usize) -> Result<usize, Failure> {
-    let word = words.get(place).copied().unwrap_or("");
+// The number that a word is.
+fn number(heap: Global, word: &str) -> Result<usize, Failure> {
     match word.parse::<u16>() {
         Ok(number) => Ok(usize::from(number)),
-        Err(_) => Err(Failure::NoNumber(String::from_str(heap, word)?)),
+        Err(_) => Err(Failure::Word(shown(heap, word)?, "number of 0 to 65535")),
     }
 }
 
 fn byte(numbers: &mut Split<'_, char>) -> Option<u8> {
     numbers.next()?.parse().ok()
 }
+
+const RULE: &str = "rule CARE,NEED,SET,CLEAR of four bytes";
 
 // A rule of four numbers with commas between them.
 fn rule_of(word: &str) -> Option<Rule> {
@@ -38,7 +39,7 @@ fn rules_of(heap: Global, words: &[&str]) -> Result<Vec<Rule>, Failure> {
     for word in words {
         match rule_of(word) {
             Some(rule) => rules.push(rule)?,
-            None => return Err(Failure::NoRule(String::from_str(heap, word)?)),
+            None => return Err(Failure::Word(shown(heap, word)?, RULE)),
         }
     }
     Ok(rules)
@@ -46,24 +47,25 @@ fn rules_of(heap: Global, words: &[&str]) -> Result<Vec<Rule>, Failure> {
 
 // The bits, the initial state and the rules.
 fn on_rules(heap: Global, words: &[&str], task: Task) -> Result<String, Failure> {
-    let bits = number(heap, words, 0)?;
-    let initial = number(heap, words, 1)?;
-    let rules = rules_of(heap, words.get(2..).unwrap_or(&[]))?;
+    let [bits, initial, rules @ ..] = words else {
+        return Err(Failure::Misused);
+    };
+    let bits = number(heap, bits)?;
+    let initial = number(heap, initial)?;
+    let rules = rules_of(heap, rules)?;
     task::on_rules(heap, bits, initial, rules.as_slice(), task)
 }
 
 fn rules(heap: Global, words: &[&str]) -> Result<String, Failure> {
     match words {
         ["--dot", words @ ..] => on_rules(heap, words, Task::Graph),
-        // No condition, and so no numbers.
-        ["--check"] => on_rules(heap, &[], Task::List),
         ["--check", condition, words @ ..] => on_rules(heap, words, Task::Check(condition)),
         _ => on_rules(heap, words, Task::List),
     }
 }
 
 fn on_file(rt: &HostRuntime, path: &str, task: Task) -> Result<String, Failure> {
-    let image = fs::read(rt, path)?;
+    let image = input::image(rt, path)?;
     task::on_image(rt.alloc(), image.as_slice(), task)
 }
 
@@ -83,8 +85,8 @@ fn check(rt: &HostRuntime, words: &[&str]) -> Result<String, Failure> {
 }
 
 fn compare_files(rt: &HostRuntime, old: &str, new: &str) -> Result<String, Failure> {
-    let old = fs::read(rt, old)?;
-    let new = fs::read(rt, new)?;
+    let old = input::image(rt, old)?;
+    let new = input::image(rt, new)?;
     difference::compare(rt.alloc(), old.as_slice(), new.as_slice())
 }
 

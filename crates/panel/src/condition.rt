@@ -1,7 +1,8 @@
 // A condition on one model: where it holds.
 use crate::failure::Failure;
+use crate::faults;
 use crate::marks::Marks;
-use crate::words::yes_or_no;
+use crate::words::{Counted, yes_or_no};
 use kripke::label::Label;
 use kripke::model::Model;
 use kripke::node::{MOST_NODES, Node};
@@ -17,7 +18,7 @@ fn nodes_of(heap: Global, text: &str, questions: usize) -> Result<Vec<Node>, Fai
             nodes.truncate(count);
             Ok(nodes)
         }
-        Err(refusal) => Err(Failure::Condition(String::from_str(heap, text)?, refusal)),
+        Err(refusal) => Err(faults::of_text(heap, text, refusal)?),
     }
 }
 
@@ -39,7 +40,8 @@ impl<'a> fmt::Display for States<'a> {
     }
 }
 
-fn told<M: Model>(
+// Whether it holds at the initial state, and the states at which it holds.
+fn answer_text<M: Model>(
     heap: Global,
     model: &M,
     text: &str,
@@ -49,7 +51,8 @@ fn told<M: Model>(
     let count = marks.root.count;
     let (states, initial) = (model.states(), model.initial());
     format!(in heap;
-        "{answer}: {text}\ninitial state {initial}; holds at {count} of {states} states:{}\n",
+        "{answer}: {text}\ninitial state {initial}; holds at {count} of {}:{}\n",
+        Counted(states, "state"),
         States { marks, states }
     )
 }
@@ -58,5 +61,5 @@ fn told<M: Model>(
 pub(crate) fn check<M: Model>(heap: Global, model: &M, text: &str) -> Result<String, Failure> {
     let nodes = nodes_of(heap, text, M::Label::questions())?;
     let marks = Marks::of(heap, model, nodes.as_slice())?;
-    Ok(told(heap, model, text, &marks)?)
+    Ok(answer_text(heap, model, text, &marks)?)
 }

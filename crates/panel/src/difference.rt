@@ -2,6 +2,7 @@
 use crate::failure::Failure;
 use crate::task::load;
 use crate::trial::trial;
+use crate::words::Counted;
 use compare::comparison::Comparison;
 use compare::verdict::Outcome;
 use image::slot::Slot;
@@ -35,7 +36,7 @@ fn formula(heap: Global, nodes: &[Node], questions: usize) -> Result<String, All
     match print_formula(heap, nodes, questions)? {
         Some(text) => format!(in heap; "true at OLD, false at NEW: {text}\n"),
         None => format!(in heap;
-            "true at OLD, false at NEW (too long for a line, so as nodes: number, code, a, b):\n{}",
+            "true at OLD, false at NEW (too long or too deep to be written as a text, so as nodes: number, code, a, b):\n{}",
             Table(nodes)
         ),
     }
@@ -51,17 +52,20 @@ fn different<M: Model>(
 ) -> Result<String, Failure> {
     let formula = formula(heap, nodes, M::Label::questions())?;
     let steps = trial(heap, nodes, old, new)?;
-    Ok(format!(in heap; "different after {rounds} rounds\n{formula}to see it:\n{steps}")?)
+    let rounds = Counted(rounds, "round");
+    Ok(format!(in heap; "different after {rounds}\n{formula}one way it can go:\n{steps}")?)
 }
 
 fn alike(heap: Global, rounds: usize, old: usize, new: usize) -> Result<String, AllocError> {
+    let rounds = Counted(rounds, "round");
+    let new = Counted(new, "state");
     format!(in heap;
-        "alike after {rounds} rounds ({old} and {new} states): no condition of any size tells the two panels apart\n"
+        "alike after {rounds} ({old} and {new}): no condition of any size tells the two panels apart\n"
     )
 }
 
 // What a closed comparison of the two models tells.
-fn told<M: Model>(
+fn verdict_text<M: Model>(
     heap: Global,
     comparison: &Comparison,
     old: &M,
@@ -75,9 +79,9 @@ fn told<M: Model>(
 }
 
 fn compare_models<M: Model>(heap: Global, old: &M, new: &M) -> Result<String, Failure> {
-    let mut comparison = Comparison::open(heap, old, new)?;
+    let mut comparison = Comparison::open(old, new);
     comparison.close();
-    told(heap, &comparison, old, new)
+    verdict_text(heap, &comparison, old, new)
 }
 
 fn of_kind<L: Coded>(heap: Global, old: &[u8], new: &[u8]) -> Result<String, Failure> {

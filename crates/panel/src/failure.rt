@@ -1,38 +1,32 @@
 use crate::usage::USAGE;
-use crate::words::{cause_in_words, write_refusal};
-use kripke::refusal::{Error, Refusal};
+use crate::words::{Excess, cause_in_words, write_excess, write_refusal};
+use kripke::refusal::Refusal;
 use std::alloc::{AllocError, AllocFailed};
 use std::{fmt, io};
 
-// Why a command gives no answer.
+// Why a command gives no answer. The texts are as they are shown.
 #[derive(Drop)]
 pub(crate) enum Failure {
     // The words are no command.
     Misused,
-    // The word is no number.
-    NoNumber(String),
-    // The word is no rule.
-    NoRule(String),
-    Refused(Refusal),
-    // The image is refused for one of its state records, of which it is told what is wrong with it.
+    // The word is not what stands there in a command.
+    Word(String, &'static str),
+    // What is wrong at the place of the refusal.
+    Refused(Refusal, &'static str),
+    // What is wrong with the state record at the place of the refusal.
     Record(Refusal, &'static str),
-    // The text is refused as a condition.
-    Condition(String, Refusal),
+    // A number breaks a limit, and the refusal has no place.
+    Excess(Refusal, Excess),
+    // The text is refused as a condition, at the place after so many columns.
+    Condition(String, usize, Refusal),
+    // The file cannot be read.
+    File(String, io::Error),
     Io(io::Error),
 }
 
 impl From<Refusal> for Failure {
     fn from(refusal: Refusal) -> Failure {
-        Failure::Refused(refusal)
-    }
-}
-
-impl From<Error> for Failure {
-    fn from(error: Error) -> Failure {
-        match error {
-            Error::Refused(refusal) => Failure::from(refusal),
-            Error::Memory => Failure::from(AllocError),
-        }
+        Failure::Refused(refusal, cause_in_words(refusal.cause))
     }
 }
 
@@ -45,12 +39,6 @@ impl From<AllocError> for Failure {
 impl<T: Drop> From<AllocFailed<T>> for Failure {
     fn from(error: AllocFailed<T>) -> Failure {
         Failure::from(AllocError::from(error))
-    }
-}
-
-impl From<io::Error> for Failure {
-    fn from(error: io::Error) -> Failure {
-        Failure::Io(error)
     }
 }
 
@@ -68,9 +56,10 @@ fn write_record<W: fmt::Write>(
 fn write_condition<W: fmt::Write>(
     f: &mut fmt::Formatter<W>,
     text: &str,
+    columns: usize,
     refusal: Refusal,
 ) -> fmt::Result {
-    let width = refusal.place.min(text.len()).saturating_add(1);
+    let width = columns.saturating_add(1);
     writeln!(f, "{text}\n{:>width$}", "^")?;
     write_refusal(f, refusal, cause_in_words(refusal.cause))
 }
@@ -80,14 +69,14 @@ impl fmt::Display for Failure {
     fn fmt<W: fmt::Write>(&self, f: &mut fmt::Formatter<W>) -> fmt::Result {
         match self {
             Failure::Misused => f.write_str(USAGE),
-            Failure::NoNumber(word) => writeln!(f, "{word} is no number of 0 to 65535"),
-            Failure::NoRule(word) => writeln!(
-                f,
-                "{word} is no rule CARE,NEED,SET,CLEAR of four bytes"
-            ),
-            Failure::Refused(refusal) => write_refusal(f, *refusal, cause_in_words(refusal.cause)),
+            Failure::Word(word, wanted) => writeln!(f, "{word} is no {wanted}"),
+            Failure::Refused(refusal, reason) => write_refusal(f, *refusal, *reason),
             Failure::Record(refusal, fault) => write_record(f, *refusal, fault),
-            Failure::Condition(text, refusal) => write_condition(f, text, *refusal),
+            Failure::Excess(refusal, excess) => write_excess(f, *refusal, *excess),
+            Failure::Condition(text, columns, refusal) => write_condition(
+                f, text, *columns, *refusal,
+            ),
+            Failure::File(name, error) => writeln!(f, "panel: {name}: {error}"),
             Failure::Io(error) => writeln!(f, "panel: {error}"),
         }
     }

@@ -1,4 +1,5 @@
 // A model as text: a listing, or a graph for Graphviz.
+use crate::words::Counted;
 use kripke::label::Label;
 use kripke::model::Model;
 use std::alloc::{AllocError, Global};
@@ -57,9 +58,10 @@ pub(crate) fn list<K: fmt::Display + Drop, M: Model>(
     kind: K,
     model: &M,
 ) -> Result<String, AllocError> {
-    let (states, initial) = (model.states(), model.initial());
+    let states = Counted(model.states(), "state");
+    let initial = model.initial();
     let lines = Lines(model);
-    format!(in heap; "{kind}, {states} states, initial state {initial}\n{lines}")
+    format!(in heap; "{kind}, {states}, initial state {initial}\n{lines}")
 }
 
 // A line a step from a state.

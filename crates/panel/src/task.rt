@@ -1,11 +1,9 @@
 // What is done with one model, whatever holds it.
 use crate::failure::Failure;
-use crate::record::fault;
-use crate::{condition, listing};
+use crate::{condition, faults, listing};
 use image::slot::Slot;
 use image::stored::StoredModel;
 use kripke::model::Model;
-use kripke::refusal::{Cause, Error};
 use labels::coded::Coded;
 use labels::kind::Kind;
 use labels::reading::Reading;
@@ -36,17 +34,6 @@ fn perform<K: fmt::Display + Drop, M: Model>(
     }
 }
 
-// Of a refused state record it is told what is wrong with it.
-fn explained<L: Coded>(image: &[u8], error: Error) -> Failure {
-    match error {
-        Error::Refused(refusal) if refusal.cause == Cause::StateRecord => {
-            let record = image.get(refusal.place..).unwrap_or(&[]);
-            Failure::Record(refusal, fault::<L>(record))
-        }
-        _ => Failure::from(error),
-    }
-}
-
 // The model of an image.
 pub(crate) fn load<L: Coded>(
     heap: Global,
@@ -54,9 +41,9 @@ pub(crate) fn load<L: Coded>(
     slot: Slot,
 ) -> Result<StoredModel<L>, Failure> {
     let mut model = StoredModel::new(heap)?;
-    match model.load(heap, image, slot) {
+    match model.load(image, slot) {
         Ok(()) => Ok(model),
-        Err(error) => Err(explained::<L>(image, error)),
+        Err(refusal) => Err(faults::of_image::<L>(image, refusal)),
     }
 }
 
@@ -81,6 +68,8 @@ pub(crate) fn on_rules(
     task: Task,
 ) -> Result<String, Failure> {
     let mut model = RuleModel::new();
-    model.load(bits, initial, rules)?;
-    perform(heap, "rules on signal words", &model, task)
+    match model.load(bits, initial, rules) {
+        Ok(()) => perform(heap, "rules on signal words", &model, task),
+        Err(refusal) => Err(faults::of_rules(bits, initial, rules, refusal)),
+    }
 }

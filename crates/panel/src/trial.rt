@@ -1,4 +1,4 @@
-// A guided trial: the steps by which to see that a formula holds at one panel and fails at the other.
+// A guided trial of a formula that holds at one panel and fails at the other: one way that the two can go, down to a question that they answer differently.
 use crate::failure::Failure;
 use crate::marks::Marks;
 use crate::words::yes_or_no;
@@ -8,28 +8,83 @@ use kripke::operator::Operator;
 use std::alloc::Global;
 use std::fmt;
 
-// A panel, and where each node of the formula holds on it.
+// A panel, its name, and where each node of the formula holds on it.
 #[derive(Drop)]
 struct Panel<'a, M> {
+    name: &'static str,
     model: &'a M,
     marks: Marks,
 }
 
 impl<'a, M: Model> Panel<'a, M> {
-    fn of(heap: Global, model: &'a M, nodes: &[Node]) -> Result<Panel<'a, M>, Failure> {
+    fn of(
+        heap: Global,
+        name: &'static str,
+        model: &'a M,
+        nodes: &[Node],
+    ) -> Result<Panel<'a, M>, Failure> {
         let marks = Marks::of(heap, model, nodes)?;
-        Ok(Panel { model, marks })
+        Ok(Panel { name, model, marks })
     }
 
-    // The first successor of state s at which node i holds as asked, else the first successor.
-    fn successor(&self, s: usize, i: usize, asked: bool) -> usize {
+    // The first successor of state s at which node i holds as asked.
+    fn successor(&self, s: usize, i: usize, asked: bool) -> Option<usize> {
         for j in 0..self.model.degree(s) {
             let next = self.model.successor(s, j);
             if self.marks.holds(i, next) == asked {
-                return next;
+                return Some(next);
             }
         }
-        self.model.successor(s, 0)
+        None
+    }
+
+    // Whether successor j of state s is none of those before it; a target may stand twice.
+    fn is_new(&self, s: usize, j: usize) -> bool {
+        let next = self.model.successor(s, j);
+        for k in 0..j {
+            if self.model.successor(s, k) == next {
+                return false;
+            }
+        }
+        true
+    }
+
+    // Whether the panel can step from state s to more than one state.
+    fn has_choice(&self, s: usize) -> bool {
+        for j in 1..self.model.degree(s) {
+            if self.is_new(s, j) {
+                return true;
+            }
+        }
+        false
+    }
+
+    // The states that it can step to from state s, each once.
+    fn write_choices<W: fmt::Write>(&self, f: &mut fmt::Formatter<W>, s: usize) -> fmt::Result {
+        for j in 0..self.model.degree(s) {
+            if self.is_new(s, j) {
+                let comma = if j == 0 { "" } else { ", " };
+                write!(f, "{comma}{}", self.model.successor(s, j))?;
+            }
+        }
+        Ok(())
+    }
+
+    // The step from state s to state t, which is assumed where there is a choice.
+    fn write_answer<W: fmt::Write>(
+        &self,
+        f: &mut fmt::Formatter<W>,
+        s: usize,
+        t: usize,
+    ) -> fmt::Result {
+        let name = self.name;
+        if self.has_choice(s) {
+            write!(f, "suppose {name} steps to state {t} (of ")?;
+            self.write_choices(f, s)?;
+            f.write_str(")\n")
+        } else {
+            writeln!(f, "{name} can only step to state {t}")
+        }
     }
 }
 
@@ -39,26 +94,6 @@ struct Place {
     node: usize,
     old: usize,
     new: usize,
-}
-
-// A step of one panel, against any step of the other.
-fn write_step<W: fmt::Write>(
-    f: &mut fmt::Formatter<W>,
-    is_old: bool,
-    old: usize,
-    new: usize,
-) -> fmt::Result {
-    if is_old {
-        writeln!(
-            f,
-            "  step: OLD to state {old}; NEW by any step, as to state {new}"
-        )
-    } else {
-        writeln!(
-            f,
-            "  step: NEW to state {new}; OLD by any step, as to state {old}"
-        )
-    }
 }
 
 // The answers of the two panels to a question: the one answers yes, and the other no.
@@ -76,7 +111,7 @@ fn write_answers<W: fmt::Write>(
     )
 }
 
-// The way from the initial states down to a question that the two panels answer differently.
+// A way from the initial states down to a question that the two panels answer differently.
 #[derive(Drop)]
 struct Steps<'a, M> {
     nodes: &'a [Node],
@@ -94,12 +129,30 @@ impl<'a, M: Model> Steps<'a, M> {
         }
     }
 
-    // A step of one panel to a state where the node holds, against any step of the other.
-    fn step(&self, node: usize, is_old: bool, at: Place) -> Place {
-        Place {
+    // A step of one panel to a state where the node holds, and one of the other to a state where it fails.
+    // Where EX of the node holds at the one and fails at the other, there is the first, and any step of the other is the second.
+    fn step(&self, node: usize, is_old: bool, at: Place) -> Option<Place> {
+        Some(Place {
             node,
-            old: self.old.successor(at.old, node, is_old),
-            new: self.new.successor(at.new, node, !is_old),
+            old: self.old.successor(at.old, node, is_old)?,
+            new: self.new.successor(at.new, node, !is_old)?,
+        })
+    }
+
+    // The step of the one panel, and that of the other: the one that is assumed, of those that it could take, or its only one.
+    fn write_step<W: fmt::Write>(
+        &self,
+        f: &mut fmt::Formatter<W>,
+        is_old: bool,
+        at: Place,
+        to: Place,
+    ) -> fmt::Result {
+        if is_old {
+            write!(f, "  OLD steps to state {}; ", to.old)?;
+            self.new.write_answer(f, at.new, to.new)
+        } else {
+            write!(f, "  NEW steps to state {}; ", to.new)?;
+            self.old.write_answer(f, at.old, to.old)
         }
     }
 
@@ -130,8 +183,11 @@ impl<'a, M: Model> fmt::Display for Steps<'a, M> {
             match Operator::try_from(node.code) {
                 Ok(Operator::Question) => return write_answers(f, operand, is_old, at),
                 Ok(Operator::EX) => {
-                    at = self.step(operand, is_old, at);
-                    write_step(f, is_old, at.old, at.new)?;
+                    let Some(to) = self.step(operand, is_old, at) else {
+                        break;
+                    };
+                    self.write_step(f, is_old, at, to)?;
+                    at = to;
                 }
                 _ => at = self.part(node, at),
             }
@@ -146,8 +202,8 @@ pub(crate) fn trial<M: Model>(
     old: &M,
     new: &M,
 ) -> Result<String, Failure> {
-    let old = Panel::of(heap, old, nodes)?;
-    let new = Panel::of(heap, new, nodes)?;
+    let old = Panel::of(heap, "OLD", old, nodes)?;
+    let new = Panel::of(heap, "NEW", new, nodes)?;
     let (s, t) = (old.model.initial(), new.model.initial());
     let steps = Steps { nodes, old, new };
     Ok(format!(in heap; "  start: OLD in state {s}, NEW in state {t}\n{steps}")?)

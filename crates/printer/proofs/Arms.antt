@@ -1,6 +1,6 @@
 -- What is written of a node: its parts one after another, or a stop at one of them.
 use Rattle.std.proofs.Common.{ℕ, suc, List, ◌++◌, get_or, Ok, Err, Result, sym, subst}
-use Rattle.kripke.specs.Nodes.{formula, blank}
+use Rattle.kripke.specs.Nodes.{formula, blank_node}
 use Rattle.kripke.specs.declared.node.Node.{Node}
 use Rattle.reader.specs.Grammar.{Mark, marks}
 use Rattle.printer.specs.declared.writer.Stop.{Stop}
@@ -10,7 +10,7 @@ use Rattle.printer.proofs.Parts.{OneAt, TwoAt}
 
 module _ (q : ℕ) {ns : List Node} {i l : ℕ} {x : List ℕ} (z : OneAt ns i l x) (b b1 : List ℕ) where
   abbrev rest : List Mark
-  rest = marks (suc l) (formula ns (get_or ns i blank).a)
+  rest = marks (suc l) (formula ns (get_or ns i blank_node).a)
 
   pub one_stops : (e : Stop) → Appends b x b1 (Err e) → Spells q b (marks l (formula ns i)) b1 (Err e)
   one_stops e h =
@@ -22,10 +22,10 @@ module _ (q : ℕ) {ns : List Node} {i l : ℕ} {x : List ℕ} (z : OneAt ns i l
 
 module _ (q : ℕ) {ns : List Node} {i l : ℕ} {x y w : List ℕ} (z : TwoAt ns i l x y w) (b b1 : List ℕ) where
   abbrev f : List Mark
-  f = marks (suc l) (formula ns (get_or ns i blank).a)
+  f = marks (suc l) (formula ns (get_or ns i blank_node).a)
 
   abbrev g : List Mark
-  g = marks (suc l) (formula ns (get_or ns i blank).b)
+  g = marks (suc l) (formula ns (get_or ns i blank_node).b)
 
   whole : (b2 : List ℕ) (r : Result (Unit {0}) Stop) → Spells q b (z.first ++ (f ++ (z.middle ++ (g ++ z.last)))) b2 r → Spells q b (marks l (formula ns i)) b2 r
   whole b2 r h = subst (λ (ms : List Mark). Spells q b ms b2 r) (sym z.is) h

@@ -1,7 +1,7 @@
 -- The text of a node's formula, part by part.
 use Rattle.std.proofs.Common.{◌≡◌, ℕ, suc, ◌<◌, ◌≤◌, List, [], ◌∷◌, ◌++◌, length, get_or, Result, sym, refl, ap, ◌∙◌, subst, append-nil, arith}
 use Rattle.kripke.specs.Ctl.{Formula, truth, question}
-use Rattle.kripke.specs.Nodes.{Operator, constant, asking, unary, binary, operator, applied, formulas, formula, Ordered, WellFormed, blank}
+use Rattle.kripke.specs.Nodes.{Operator, constant, asking, unary, binary, operator, applied, formulas, formula, Ordered, WellFormed, blank_node}
 use Rattle.kripke.specs.declared.node.Node.{Node}
 use Rattle.kripke.proofs.Tables.{formula_at}
 use Rattle.reader.specs.declared.token.Token.TheVariants as token
@@ -22,7 +22,7 @@ pub record OneAt (ns : List Node) (i l : ℕ) (before : List ℕ) : Type 0 where
   pub part : List Mark
   pub good : (q : ℕ) → All q part
   pub spells : before ≡ spelt (toks part)
-  pub is : marks l (formula ns i) ≡ part ++ marks (suc l) (formula ns (get_or ns i blank).a)
+  pub is : marks l (formula ns i) ≡ part ++ marks (suc l) (formula ns (get_or ns i blank_node).a)
 
 one_of : (op : Operator) (fs : List Formula) (a b l : ℕ) → l ≤ 64 → (x : _) → Written op (Before x)
     → (part : List Mark) × ((q : ℕ) → All q part) × (x.now ≡ spelt (toks part)) × (marks l (applied op fs a b) ≡ part ++ marks (suc l) (get_or fs a truth))
@@ -42,7 +42,7 @@ pub record TwoAt (ns : List Node) (i l : ℕ) (before between after : List ℕ) 
   pub links : between ≡ spelt (toks middle)
   pub ends : after ≡ spelt (toks last)
   pub is : marks l (formula ns i)
-      ≡ first ++ (marks (suc l) (formula ns (get_or ns i blank).a) ++ (middle ++ (marks (suc l) (formula ns (get_or ns i blank).b) ++ last)))
+      ≡ first ++ (marks (suc l) (formula ns (get_or ns i blank_node).a) ++ (middle ++ (marks (suc l) (formula ns (get_or ns i blank_node).b) ++ last)))
 
 two_of : (op : Operator) (fs : List Formula) (a b l : ℕ) → l ≤ 64 → (x y z : _) → Written op (Around x y z)
     → (first : List Mark) × (middle : List Mark) × (last : List Mark) × ((q : ℕ) → All q first × All q middle × All q last)
@@ -76,7 +76,7 @@ question_of (binary op) fs q i a b h o = absurd h
 
 module _ (q : ℕ) (ns : List Node) (w : WellFormed q ns) (i : ℕ) (li : i < length ns) (l : ℕ) (le : l ≤ 64) where
   abbrev n : Node
-  n = get_or ns i blank
+  n = get_or ns i blank_node
 
   pub one_at : (x : _) → Written (operator n) (Before x) → OneAt ns i l x.now
   one_at x h =

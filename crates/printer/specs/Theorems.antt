@@ -7,7 +7,7 @@ use Rattle.kripke.specs.declared.node.Node.{Node}
 use Rattle.kripke.specs.declared.refusal.Refusal.{Refusal}
 use Rattle.kripke.specs.declared.refusal.Cause.TheVariants.{ManyNodes}
 use Rattle.kripke.specs.declared.refusal.Layer.TheVariants.{Text}
-use Rattle.reader.specs.Breaches.{Breach, Reads, Sooner}
+use Rattle.reader.specs.Breaches.{TextBreach, Reads, Sooner}
 use Rattle.reader.specs.Table.{table}
 use Rattle.printer.specs.Printed.{TextOf}
 
@@ -19,4 +19,4 @@ Back f before after (Err e) = (e.cause ≡ ManyNodes) × ((length before < lengt
 -- Whatever the reader of formulas may answer to a text that was printed, with the same questions and any places.
 abbrev pub ReadBack : Type 0
 ReadBack = (q : ℕ) (ns : List Node) (text : List ℕ) → TextOf q ns text → (before after : List Node) (r : Result ℕ Refusal)
-    → JudgedBy Sooner (Breach text q (length before)) Text (Reads text q before after) (after ≡ before) r → Back (root ns) before after r
+    → JudgedBy Sooner r (record { breaches = TextBreach text q (length before); layer = Text; accepted = Reads text q before after; refused = after ≡ before }) → Back (root ns) before after r

@@ -30,7 +30,7 @@ pub record Spelt (q : ℕ) (before : List ℕ) (ms : List Mark) (after : List �
 
 abbrev pub Spells : ℕ → List ℕ → List Mark → List ℕ → Result (Unit {0}) Stop → Type 0
 Spells q before ms after (Ok _) = Spelt q before ms after
-Spells q before ms after (Err Limit) = Fits q before ms → ⊥
+Spells q before ms after (Err Limit) = ¬ Fits q before ms
 Spells q before ms after (Err (Memory e)) = Unit {0}
 
 abbrev pub sign : Sign → Mark

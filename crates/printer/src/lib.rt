@@ -15,8 +15,14 @@ use std::alloc::{AllocError, Global};
 mod signs;
 mod writer;
 
-// The root's formula as a text that the reader of formulas reads; a node that is named twice is written twice.
-// None if there is no such text: for a table that is empty or not in order, and beyond the reader's limits of questions, levels and bytes.
+/// The formula of a table's root, on so many questions, as a text that the reader of formulas reads (docs/FORMATS.md, "A printed formula").
+///
+/// A node that is named twice is written twice, and one that the root does not reach is not written.
+///
+/// `None` where there is no such text (docs/REFUSALS.md, "The printer"): for an empty table, a table that is not in order, questions that are not 1 to 32,
+/// a level beyond 64, or a text beyond 4,096 bytes; and nowhere else.
+///
+/// `AllocError` is want of memory alone. It is met only by a table in order, on 1 to 32 questions, and does not say whether the text would keep the limits.
 pub fn print_formula(
     heap: Global,
     nodes: &[Node],
@@ -38,7 +44,7 @@ pub fn print_formula(
     }
 }
 
-// What is printed is read back as the same formula, unless it has too many nodes for the places. This function does nothing; its contract is a theorem.
+/// What is printed is read back as the same formula, unless it has more nodes than there are places, or than 2,045. This function does nothing; its contract is a theorem.
 pub fn read_back()
     ensures { ReadBack }
 {}

@@ -5,8 +5,7 @@ ghost use Rattle.std.specs.Prelude.{slice_index_or};
 use kripke::operator::Operator;
 
 // How an operator is written: as T, as a question, with a sign before its argument, or with signs before, between and after its two arguments.
-#[derive(Clone, Copy)]
-pub enum Signs {
+pub(crate) enum Signs {
     Truth,
     Question,
     Before(&'static str),

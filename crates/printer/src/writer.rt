@@ -14,8 +14,7 @@ use std::alloc::{AllocError, Global};
 use std::marker::Model;
 
 // Why a text is not written to its end: it passes a limit, or there is no memory.
-#[derive(Clone, Copy)]
-pub enum Stop {
+pub(crate) enum Stop {
     Limit,
     Memory(AllocError),
 }

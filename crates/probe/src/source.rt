@@ -32,7 +32,7 @@ pub(crate) enum Held {
 
 fn stored<L: Coded>(heap: Global, image: &[u8], slot: Slot) -> Result<StoredModel<L>, Error> {
     let mut model = StoredModel::new(heap)?;
-    model.load(heap, image, slot)?;
+    model.load(image, slot)?;
     Ok(model)
 }
 

@@ -1,10 +1,10 @@
 -- The tokens of a text from an offset on, one at a time.
-use Rattle.std.proofs.Common.{◌≡◌, ℕ, zero, suc, ◌+◌, ◌-◌, ◌*◌, ◌≤◌, Bool, true, false, cond, ◌&&◌, eqb, leb, List, [], ◌∷◌, length, take, drop, Some, None, Option, sym, refl, ap, ◌∙◌, subst, arith, length-drop, drop-drop}
-use Rattle.std.specs.List.{prefix_len}
-use Rattle.std.proofs.lemmas.List.{take_rest}
+use Rattle.std.proofs.Common.{◌≡◌, ℕ, zero, suc, ◌+◌, ◌-◌, ◌≤◌, Bool, true, false, cond, eqb, List, [], ◌∷◌, ◌++◌, length, take, drop, replicate, sym, refl, ap, ◌∙◌, subst, arith, append_assoc, length-append, length-drop}
+use Rattle.std.proofs.lemmas.Bool.{eqb-true}
+use Rattle.std.proofs.lemmas.List.{take_rest, take-append-drop, drop_at}
 use Rattle.reader.specs.declared.token.Token.{Token}
-use Rattle.reader.specs.declared.token.Unary.{Unary}
-use Rattle.reader.specs.Tokens.{Stream, done, next, offset, first, rest, digit, numeral, operator, asking, acting, lex, is_space, tokens}
+use Rattle.reader.specs.Tokens.{Stream, Cut, done, next, offset, first, rest, lex, token_split, unspaced, tokens}
+use Rattle.reader.proofs.Leading.{lex_fits, alone}
 use Rattle.reader.specs.Reading.{Passed}
 
 skipped : (k o : ℕ) (bs : List ℕ) → k ≤ length bs → tokens k o bs ≡ tokens 0 (o + k) (drop k bs)
@@ -13,102 +13,82 @@ skipped zero o bs h = let e : o ≡ o + 0 = omega arith in ap (λ (n : ℕ). tok
 skipped (suc k) o [] h = absurd (omega arith)
 skipped (suc k) o (b ∷ bs) h = skipped k (suc o) bs (omega arith) ∙ (let e : suc o + k ≡ o + suc k = omega arith in ap (λ (n : ℕ). tokens 0 n (drop k bs)) e)
 
--- A token is one byte or more, and within the text.
-numeral_fits : (bs : List ℕ) → ((asking (numeral bs)).1 ≤ suc (length bs)) × (1 ≤ (asking (numeral bs)).1)
-numeral_fits [] = (omega arith, omega arith)
-numeral_fits (d ∷ []) = go (digit d)
-  where
-    go : (x : Bool) → ((asking (cond x (Some (d - 48, 1)) None)).1 ≤ 2) × (1 ≤ (asking (cond x (Some (d - 48, 1)) None)).1)
-    go true = (omega arith, omega arith)
-    go false = (omega arith, omega arith)
-numeral_fits (d ∷ e ∷ bs) = go (digit d) (leb 49 d && digit e)
-  where
-    go : (x y : Bool)
-        → ((asking (cond x (cond y (Some ((d - 48) * 10 + (e - 48), 2)) (Some (d - 48, 1))) None)).1 ≤ suc (suc (suc (length bs))))
-        × (1 ≤ (asking (cond x (cond y (Some ((d - 48) * 10 + (e - 48), 2)) (Some (d - 48, 1))) None)).1)
-    go true true = (omega arith, omega arith)
-    go true false = (omega arith, omega arith)
-    go false y = (omega arith, omega arith)
+-- The stream s of the text bs from offset o on begins with the token of u, the text after the spaces.
+pub record Front (s : Stream) (o : ℕ) (bs u : List ℕ) : Type 0 where
+  pub spaces : (k : ℕ) × (bs ≡ replicate k 32 ++ u)
+  pub is : first s ≡ (lex u).0
+  pub here : offset s + length u ≡ o + length bs
+  pub after : rest s ≡ tokens 0 (offset s + (lex u).1) (drop (lex u).1 u)
+  pub fits : (lex u).1 ≤ length u
 
-operator_fits : (b : ℕ) (bs : List ℕ) → ((acting b (operator (b ∷ bs))).1 ≤ suc (length bs)) × (1 ≤ (acting b (operator (b ∷ bs))).1)
-operator_fits b [] = (omega arith, omega arith)
-operator_fits b (c ∷ bs) = go (operator (b ∷ c ∷ bs))
-  where
-    go : (o : Option Unary) → ((acting b o).1 ≤ suc (suc (length bs))) × (1 ≤ (acting b o).1)
-    go None = (omega arith, omega arith)
-    go (Some u) = (omega arith, omega arith)
-
-lex_fits : (b : ℕ) (bs : List ℕ) → ((lex (b ∷ bs)).1 ≤ suc (length bs)) × (1 ≤ (lex (b ∷ bs)).1)
-lex_fits b bs = go (eqb b 113)
-  where
-    go : (x : Bool) → ((cond x (asking (numeral bs)) (acting b (operator (b ∷ bs)))).1 ≤ suc (length bs)) × (1 ≤ (cond x (asking (numeral bs)) (acting b (operator (b ∷ bs)))).1)
-    go true = numeral_fits bs
-    go false = operator_fits b bs
-
--- The stream s of the text bs from offset o on begins with the token after n spaces.
-pub record Front (s : Stream) (o : ℕ) (bs : List ℕ) (n : ℕ) : Type 0 where
-  pub passed : Passed s (lex (drop n bs)).0 (o + n) (tokens 0 (o + n + (lex (drop n bs)).1) (drop (n + (lex (drop n bs)).1) bs))
-  pub fits : n + (lex (drop n bs)).1 ≤ length bs
-
-pub fronted : (o : ℕ) (bs : List ℕ) → Front (tokens 0 o bs) o bs (prefix_len is_space bs)
+pub fronted : (o : ℕ) (bs : List ℕ) → Front (tokens 0 o bs) o bs (unspaced bs)
 unfolding tokens
-fronted o [] =
-    let e : o ≡ o + 0 = omega arith in
-    record { passed = record { is = refl; here = e; after = ap done (omega arith) }; fits = omega arith }
-fronted o (b ∷ bs) = go (eqb b 32) (fronted (suc o) bs)
+fronted o [] = record { spaces = (0, refl); is = refl; here = refl; after = ap done (omega arith); fits = omega arith }
+fronted o (b ∷ bs) = go (eqb b 32) refl (fronted (suc o) bs)
   where
-    go : (x : Bool) → Front (tokens 0 (suc o) bs) (suc o) bs (prefix_len is_space bs)
-        → Front (cond x (tokens 0 (suc o) bs) (next o (lex (b ∷ bs)).0 (tokens ((lex (b ∷ bs)).1 - 1) (suc o) bs))) o (b ∷ bs) (cond x (1 + prefix_len is_space bs) 0)
-    go true f = later (prefix_len is_space bs) f
-      where
-        later : (n : ℕ) → Front (tokens 0 (suc o) bs) (suc o) bs n → Front (tokens 0 (suc o) bs) o (b ∷ bs) (1 + n)
-        later n f =
-            let one : suc n ≡ 1 + n = omega arith in
-            let m : ℕ = (lex (drop n bs)).1 in
-            subst (Front (tokens 0 (suc o) bs) o (b ∷ bs)) one (record {
-              passed = record {
-                is = f.passed.is;
-                here = f.passed.here ∙ (omega arith);
-                after = f.passed.after ∙ ap (λ (i : ℕ). tokens 0 i (drop (n + m) bs)) (omega arith) ∙ ap (λ (i : ℕ). tokens 0 (o + suc n + m) (drop i (b ∷ bs))) (let e : suc (n + m) ≡ suc n + m = omega arith in e);
-              };
-              fits = omega (arith, f.fits);
-            })
-    go false f =
+    go : (x : Bool) → eqb b 32 ≡ x → Front (tokens 0 (suc o) bs) (suc o) bs (unspaced bs)
+        → Front (cond x (tokens 0 (suc o) bs) (next o (lex (b ∷ bs)).0 (tokens ((lex (b ∷ bs)).1 - 1) (suc o) bs))) o (b ∷ bs) (cond x (unspaced bs) (b ∷ bs))
+    go true e f = record {
+      spaces = (suc f.spaces.0, ap (λ (c : ℕ). c ∷ bs) (eqb-true b 32 e) ∙ ap (λ (l : List ℕ). 32 ∷ l) f.spaces.1);
+      is = f.is;
+      here = f.here ∙ (omega arith);
+      after = f.after;
+      fits = f.fits;
+    }
+    go false e f =
         let m = lex_fits b bs in
-        record {
-          passed = record { is = refl; here = omega arith; after = skipped ((lex (b ∷ bs)).1 - 1) (suc o) bs (omega (arith, m.0, m.1)) ∙ moved (lex (b ∷ bs)).1 m.1 };
-          fits = omega (arith, m.0);
-        }
+        record { spaces = (0, refl); is = refl; here = refl; after = skipped ((lex (b ∷ bs)).1 - 1) (suc o) bs (omega (arith, m.0, m.1)) ∙ moved (lex (b ∷ bs)).1 m.1; fits = m.0 }
       where
-        moved : (n : ℕ) → 1 ≤ n → tokens 0 (suc o + (n - 1)) (drop (n - 1) bs) ≡ tokens 0 (o + 0 + n) (drop (0 + n) (b ∷ bs))
+        moved : (n : ℕ) → 1 ≤ n → tokens 0 (suc o + (n - 1)) (drop (n - 1) bs) ≡ tokens 0 (o + n) (drop n (b ∷ bs))
         moved zero l = absurd (omega arith)
         moved (suc n) l =
-            let p : suc o + (suc n - 1) ≡ o + 0 + suc n = omega arith in
+            let p : suc o + (suc n - 1) ≡ o + suc n = omega arith in
             let q : suc n - 1 ≡ n = omega arith in
-            let r : suc n ≡ 0 + suc n = omega arith in
-            ap (λ (m : ℕ). tokens 0 m (drop (suc n - 1) bs)) p ∙ ap (λ (m : ℕ). tokens 0 (o + 0 + suc n) (drop m bs)) q ∙ ap (λ (m : ℕ). tokens 0 (o + 0 + suc n) (drop m (b ∷ bs))) r
+            ap (λ (m : ℕ). tokens 0 m (drop (suc n - 1) bs)) p ∙ ap (λ (m : ℕ). tokens 0 (o + suc n) (drop m bs)) q
 
--- The same at an offset of a text, whose parts are slices.
-module _ (text left : List ℕ) (at n : ℕ) (t : Token × ℕ) (le : at ≤ length text) (is : left ≡ take (length text - at) (drop at text))
-    (sp : n ≡ prefix_len is_space left) (lx : t ≡ lex (take (length left - n) (drop n left))) where
-  front : Front (tokens 0 at left) at left n
-  front = subst (Front (tokens 0 at left) at left) (sym sp) (fronted at left)
+-- The same at an offset of a text: u is the text there after the spaces, r what follows its first token, and the part is what lies between.
+module _ (text u r : List ℕ) (at : ℕ) (t : Token) (le : at ≤ length text) (sp : u ≡ unspaced (take (length text - at) (drop at text)))
+    (sl : ◌≡◌ {A = Token × List ℕ} (t, r) (token_split u)) where
+  front : Front (tokens 0 at (drop at text)) at (drop at text) u
+  front = subst (Front (tokens 0 at (drop at text)) at (drop at text)) (sym (sp ∙ ap unspaced (take_rest text at))) (fronted at (drop at text))
 
-  rests : left ≡ drop at text
-  rests = is ∙ take_rest text at
+  remains : r ≡ drop (lex u).1 u
+  remains = ap (λ (p : Token × List ℕ). p.1) sl
 
-  lexed : t ≡ lex (drop n left)
-  lexed = lx ∙ ap lex (take_rest left n)
+  lengths : length r + (lex u).1 ≡ length u
+  lengths = omega (arith, front.fits, ap length remains, length-drop (lex u).1 u)
 
-  pub token_fits : at + n + t.1 ≤ length text
-  token_fits = omega (arith, front.fits, ap (λ p. p.1) lexed, ap length rests, length-drop at text)
+  pub token_fits : length r ≤ length text
+  token_fits = omega (arith, lengths, front.here, ap length front.spaces.1, length-append (replicate front.spaces.0 32) u, length-drop at text)
 
-  pub token_passed : Passed (tokens 0 at (drop at text)) t.0 (at + n) (tokens 0 (at + n + t.1) (drop (at + n + t.1) text))
-  token_passed =
-      let p = front.passed in record {
-        is = ap (λ (l : List ℕ). first (tokens 0 at l)) (sym rests) ∙ p.is ∙ sym (ap (λ p. p.0) lexed);
-        here = ap (λ (l : List ℕ). offset (tokens 0 at l)) (sym rests) ∙ p.here;
-        after = ap (λ (l : List ℕ). rest (tokens 0 at l)) (sym rests) ∙ p.after ∙ ap (λ (m : ℕ). tokens 0 (at + n + m) (drop (n + m) left)) (sym (ap (λ p. p.1) lexed))
-            ∙ ap (λ (l : List ℕ). tokens 0 (at + n + t.1) (drop (n + t.1) l)) rests ∙ ap (tokens 0 (at + n + t.1)) (drop-drop (n + t.1) at text)
-            ∙ ap (λ (m : ℕ). tokens 0 (at + n + t.1) (drop m text)) (omega arith);
-      }
+  part : take (length u - length r) u ≡ take (lex u).1 u
+  part = let e : length u - length r ≡ (lex u).1 = omega (arith, lengths) in ap (λ (n : ℕ). take n u) e
+
+  joined : u ≡ take (length u - length r) u ++ r
+  joined = sym (take-append-drop (lex u).1 u) ∙ ap (λ (l : List ℕ). l ++ drop (lex u).1 u) (sym part) ∙ ap (λ (l : List ℕ). take (length u - length r) u ++ l) (sym remains)
+
+  whole : text ≡ (take at text ++ (replicate front.spaces.0 32 ++ take (length u - length r) u)) ++ r
+  whole =
+      sym (take-append-drop at text)
+      ∙ ap (λ (l : List ℕ). take at text ++ l) (front.spaces.1 ∙ ap (λ (l : List ℕ). replicate front.spaces.0 32 ++ l) joined ∙ sym (append_assoc (replicate front.spaces.0 32) (take (length u - length r) u) r))
+      ∙ sym (append_assoc (take at text) (replicate front.spaces.0 32 ++ take (length u - length r) u) r)
+
+  -- what is left of the text
+  left : drop (length text - length r) text ≡ r
+  left =
+      let before : List ℕ = take at text ++ (replicate front.spaces.0 32 ++ take (length u - length r) u) in
+      ap (drop (length text - length r)) whole ∙ drop_at before r (length text - length r) (omega (arith, ap length whole, length-append before r))
+
+  pub token_cut : Cut (drop at text) (take (length u - length r) u) (drop (length text - length r) text)
+  token_cut = (front.spaces.0, front.spaces.1 ∙ ap (λ (l : List ℕ). replicate front.spaces.0 32 ++ l) (joined ∙ ap (λ (l : List ℕ). take (length u - length r) u ++ l) (sym left)))
+
+  pub token_passed : Passed (tokens 0 at (drop at text)) (take (length u - length r) u) (length text - length r) (tokens 0 (length text - length r) (drop (length text - length r) text))
+  token_passed = record {
+    is = front.is ∙ sym (ap (λ (p : List ℕ). (lex p).0) part ∙ ap (λ (p : Token × ℕ). p.0) (alone u));
+    entire =
+        let same : (lex (take (length u - length r) u)).1 ≡ (lex u).1 = ap (λ (p : List ℕ). (lex p).1) part ∙ ap (λ (p : Token × ℕ). p.1) (alone u) in
+        omega (arith, same, lengths, ap length joined, length-append (take (length u - length r) u) r);
+    here = omega (arith, lengths, front.here, ap length front.spaces.1, length-append (replicate front.spaces.0 32) u, length-drop at text, ap length joined, length-append (take (length u - length r) u) r);
+    after = front.after ∙ ap (tokens 0 (offset (tokens 0 at (drop at text)) + (lex u).1)) (sym remains ∙ sym left)
+        ∙ ap (λ (o : ℕ). tokens 0 o (drop (length text - length r) text)) (omega (arith, lengths, front.here, ap length front.spaces.1, length-append (replicate front.spaces.0 32) u, length-drop at text));
+  }

@@ -33,12 +33,12 @@ module _ (c : ℕ) (f : Formula) (ms w : List Mark) (al : All c ms) (e : ms ++ w
   limited : (z : Parted ms ts t) → (z.1 ≤ 64) × Asked c t
   limited z = all_at c z.0 t z.1 z.2 (subst (All c) z.3 al)
 
-  pub not_unasked : (j : ℕ) → t ≡ token.Question j → c ≤ j → ⊥
+  pub not_unasked : (j : ℕ) → t ≡ token.Question j → ¬ c ≤ j
   not_unasked j q le =
       let g : j < c = subst (Asked c) q (limited (parted ms ts t m p)).1 in
       omega arith
 
-  pub not_deep : (g : Formula) (ps qs : List Mark) → toks ps ≡ ts → ps ++ (mark t 65 ∷ qs) ≡ whole g → ⊥
+  pub not_deep : (g : Formula) (ps qs : List Mark) → toks ps ≡ ts → ¬ ps ++ (mark t 65 ∷ qs) ≡ whole g
   not_deep g ps qs h k =
       let z = parted ms ts t m p in
       let same = same_levels f g (z.0 ++ (mark t z.1 ∷ [])) (z.2 ++ w) (ps ++ (mark t 65 ∷ [])) qs

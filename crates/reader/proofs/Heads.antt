@@ -93,7 +93,7 @@ inverse l h g r v e =
     let same : z.0 ≡ h = one_head z.0 h (cc) in
     subst (λ (k : Head). (x : (Tail (suc l) k).A) × (g ≡ built (suc l) k x) × (v ≡ toks ((Tail (suc l) k).mk x) ++ r)) same (z.1, z.2, cc)
 
-pub no_head : (l : ℕ) (t : Token) → head_of t ≡ None → (g : Formula) (r v : List Token) → t ∷ v ≡ toks (marks l g) ++ r → ⊥
+pub no_head : (l : ℕ) (t : Token) → head_of t ≡ None → (g : Formula) (r v : List Token) → ¬ t ∷ v ≡ toks (marks l g) ++ r
 no_head l t n g r v e =
     let z = begins_with l g in
     let p : t ∷ v ≡ opening z.0 ∷ (toks ((Tail (suc l) z.0).mk z.1) ++ r) = e ∙ ap (λ m. toks m ++ r) z.3 in

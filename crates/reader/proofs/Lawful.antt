@@ -3,7 +3,7 @@ use Rattle.std.proofs.Common.{◌≡◌, ℕ, zero, suc, ◌+◌, ◌-◌, ◌<�
 use Rattle.std.proofs.lemmas.List.{length-append, get_or_append_left, get_or-append_right}
 use Rattle.std.proofs.lemmas.Bool.{cases_lt}
 use Rattle.kripke.specs.Ctl.{Formula}
-use Rattle.kripke.specs.Nodes.{code_of, LawfulNode, blank, WellFormed}
+use Rattle.kripke.specs.Nodes.{code_of, LawfulNode, blank_node, WellFormed}
 use Rattle.kripke.specs.declared.node.Node.{Node}
 use Rattle.reader.specs.declared.token.Token.TheVariants as token
 use Rattle.reader.specs.declared.token.Unary.{Unary}
@@ -21,15 +21,15 @@ use Rattle.reader.proofs.Tables.{applied_nodes, joined_nodes, some_node}
 
 -- Nodes numbered from i on are in order.
 abbrev Ordered-from : ℕ → ℕ → List Node → Type 0
-Ordered-from q i ns = (k : ℕ) → k < length ns → LawfulNode q (i + k) (get_or ns k blank)
+Ordered-from q i ns = (k : ℕ) → k < length ns → LawfulNode q (i + k) (get_or ns k blank_node)
 
 append_ordered : (q i : ℕ) (a b : List Node) → Ordered-from q i a → Ordered-from q (i + length a) b → Ordered-from q i (a ++ b)
 append_ordered q i a b ha hb k l = ⊎_elim
-    (λ h. subst (LawfulNode q (i + k)) (sym (get_or_append_left a b blank k h)) (ha k h))
+    (λ h. subst (LawfulNode q (i + k)) (sym (get_or_append_left a b blank_node k h)) (ha k h))
     (λ h.
     let at : i + length a + (k - length a) ≡ i + k = omega arith in
-    subst (LawfulNode q (i + k)) (sym (get_or-append_right a b (length a) k blank refl h))
-    (subst (λ (m : ℕ). LawfulNode q m (get_or b (k - length a) blank)) at (hb (k - length a) (omega (arith, length-append a b)))))
+    subst (LawfulNode q (i + k)) (sym (get_or-append_right a b (length a) k blank_node refl h))
+    (subst (λ (m : ℕ). LawfulNode q m (get_or b (k - length a) blank_node)) at (hb (k - length a) (omega (arith, length-append a b)))))
     (cases_lt k (length a))
 
 one_ordered : (q i : ℕ) (n : Node) → LawfulNode q i n → Ordered-from q i (n ∷ [])
@@ -82,4 +82,4 @@ lawful_from q = induction (Lawful-from q)
     (lawful_applied q) (lawful_joined q)
 
 pub well_formed : (q : ℕ) (f : Formula) → Within q f → WellFormed q (table f)
-well_formed q f al i h = let e : 0 + i ≡ i = omega arith in subst (λ (k : ℕ). LawfulNode q k (get_or (table f) i blank)) e (lawful_from q f 1 0 al i h)
+well_formed q f al i h = let e : 0 + i ≡ i = omega arith in subst (λ (k : ℕ). LawfulNode q k (get_or (table f) i blank_node)) e (lawful_from q f 1 0 al i h)

@@ -6,7 +6,9 @@ pub mod Clear
 pub mod Tables
 pub mod Lawful
 pub mod Places
+pub mod Leading
 pub mod Ahead
+pub mod Made
 pub mod Room
 pub mod Steps
 pub mod Chains

@@ -1,5 +1,5 @@
 -- Phrases one after another: they are read in one way, and a refusal of a part is one of the whole.
-use Rattle.std.proofs.Common.{◌≡◌, ℕ, List, [], ◌∷◌, ◌++◌, sym, refl, ap, ◌∙◌, subst, append_assoc, arith, ◌≢◌}
+use Rattle.std.proofs.Common.{◌≡◌, ℕ, ◌+◌, ◌-◌, List, [], ◌∷◌, ◌++◌, sym, refl, ap, ◌∙◌, subst, append_assoc, arith, ◌≢◌}
 use Rattle.kripke.specs.declared.refusal.Refusal.{Refusal}
 use Rattle.kripke.specs.declared.refusal.Cause.{Cause}
 use Rattle.kripke.specs.declared.refusal.Cause.TheVariants as cause
@@ -121,12 +121,15 @@ both_taken P Q c s s1 s2 a b h al g bl = (
 )
 
 -- The refusal tells the cause at the next token of s.
-abbrev pub told : Cause → Stream → Refusal
-told k s = record { cause = k; layer = layer.Text; place = offset s }
+abbrev pub text_refusal : Cause → Stream → Refusal
+text_refusal k s = record { cause = k; layer = layer.Text; place = offset s }
 
-pub told_at : (P : Phrase) (c : ℕ) (s : Stream) (k : Cause) (p : ℕ) (e : Refusal) → offset s ≡ p → e ≡ record { cause = k; layer = layer.Text; place = p } → Refused P c s (told k s) → Refused P c s e
-told_at P c s k p e h is = subst (Refused P c s) (ap (λ (q : ℕ). record { cause = k; layer = layer.Text; place = q }) h ∙ sym is)
+-- So does a refusal whose place is so many bytes before an offset, where that token ends.
+pub told_at : (P : Phrase) (c : ℕ) (s : Stream) (k : Cause) (n o : ℕ) (e : Refusal) → offset s + n ≡ o → e ≡ record { cause = k; layer = layer.Text; place = o - n } → Refused P c s (text_refusal k s)
+    → Refused P c s e
+told_at P c s k n o e h is =
+    let p : offset s ≡ o - n = omega (arith, h) in subst (Refused P c s) (ap (λ (q : ℕ). record { cause = k; layer = layer.Text; place = q }) p ∙ sym is)
 
 -- A refusal where no token was taken.
-pub nothing_taken : (P : Phrase) (c : ℕ) (s : Stream) → ((y : P.A) (r v : List Token) → first s ∷ v ≢ toks (P.mk y) ++ r) → Refused P c s (told cause.Unexpected s)
+pub nothing_taken : (P : Phrase) (c : ℕ) (s : Stream) → ((y : P.A) (r v : List Token) → first s ∷ v ≢ toks (P.mk y) ++ r) → Refused P c s (text_refusal cause.Unexpected s)
 nothing_taken P c s h = record { pre = []; w = P.mk P.any; value = P.any; at = s; after = refl; good = tt; spelt = refl; here = refl; layered = refl; why = unexpected h }

@@ -2,7 +2,7 @@
 use Rattle.std.specs.Prelude.{◌≡◌, ℕ, ◌<◌, ◌≤◌, cond, ◌⊎◌, List, [], ◌∷◌, ◌++◌, length, drop, Ok, Err, Result, nat_lt}
 use Rattle.kripke.specs.Ctl.{Formula}
 use Rattle.kripke.specs.Nodes.{root, WellFormed}
-use Rattle.kripke.specs.Refusals.{number_of, FirstBy}
+use Rattle.kripke.specs.Refusals.{number_of, FirstBreachBy}
 use Rattle.kripke.specs.declared.node.Node.{Node}
 use Rattle.kripke.specs.declared.refusal.Refusal.{Refusal}
 use Rattle.kripke.specs.declared.refusal.Layer.TheVariants as layer
@@ -16,19 +16,19 @@ use Rattle.reader.specs.Table.{table}
 
 -- The rules that a text breaks, read with q questions into the given number of places.
 -- A place in the text is what stands before it, the tokens ts, and what follows, s; its offset is that of the first token of s.
-pub data Breach (text : List ℕ) (q places : ℕ) : Cause → ℕ → Type 0 where
-  long : 4096 < length text → Breach text q places cause.TextLimits 0
-  unlimited : (q ≡ 0) ⊎ (32 < q) → Breach text q places cause.TextLimits 0
+pub data TextBreach (text : List ℕ) (q places : ℕ) : Cause → ℕ → Type 0 where
+  long : 4096 < length text → TextBreach text q places cause.TextLimits 0
+  unlimited : (q ≡ 0) ⊎ (32 < q) → TextBreach text q places cause.TextLimits 0
   -- some formula's text begins with ts, and none with ts and the token, other byte or end that follows
-  unexpected : (ts : List Token) (s : Stream) → After (tokens 0 0 text) ts s → Viable ts → (Viable (ts ++ (first s ∷ [])) → ⊥)
-      → Breach text q places cause.Unexpected (offset s)
+  unexpected : (ts : List Token) (s : Stream) → After (tokens 0 0 text) ts s → Viable ts → (¬ Viable (ts ++ (first s ∷ [])))
+      → TextBreach text q places cause.Unexpected (offset s)
   -- some formula's text goes on with the question j
   unasked : (ts : List Token) (s : Stream) (j : ℕ) → After (tokens 0 0 text) ts s → first s ≡ Question j → Viable (ts ++ (first s ∷ [])) → q ≤ j
-      → Breach text q places cause.QuestionNumber (offset s)
+      → TextBreach text q places cause.QuestionNumber (offset s)
   -- in some formula's text that goes on with the token, a subformula begins with it at level 65
   deep : (ts : List Token) (s : Stream) (f : Formula) (ps qs : List Mark) → After (tokens 0 0 text) ts s → toks ps ≡ ts → ps ++ (mark (first s) 65 ∷ qs) ≡ whole f
-      → Breach text q places cause.TooDeep (offset s)
-  many : (f : Formula) → Sentence text f → (places < length (table f)) ⊎ (2045 < length (table f)) → Breach text q places cause.ManyNodes (length (table f))
+      → TextBreach text q places cause.TooDeep (offset s)
+  many : (f : Formula) → Sentence text f → (places < length (table f)) ⊎ (2045 < length (table f)) → TextBreach text q places cause.ManyNodes (length (table f))
 
 -- The limits are told first and too many nodes last; of the others the least offset is told, and at one offset the lower number.
 abbrev pub stage : Cause → ℕ
@@ -66,8 +66,8 @@ pub record Readable (text : List ℕ) (q places : ℕ) (f : Formula) : Type 0 wh
 -- Every text that is to be read is read: none of them is refused.
 abbrev pub Complete : List ℕ → ℕ → ℕ → Result ℕ Refusal → Type 0
 Complete text q places (Ok n) = Unit {0}
-Complete text q places (Err e) = (f : Formula) → Readable text q places f → ⊥
+Complete text q places (Err e) = (f : Formula) → ¬ Readable text q places f
 
 -- The refusal of a call that is judged so and complete.
 abbrev pub Refuses : List ℕ → ℕ → ℕ → Refusal → Type 0
-Refuses text q places e = FirstBy Sooner (Breach text q places) layer.Text e × ((f : Formula) → Readable text q places f → ⊥)
+Refuses text q places e = FirstBreachBy Sooner (TextBreach text q places) layer.Text e × ((f : Formula) → ¬ Readable text q places f)

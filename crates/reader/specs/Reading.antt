@@ -3,22 +3,25 @@ use Rattle.std.specs.Prelude.{◌≡◌, ℕ, ◌+◌, List, length, drop, slice
 use Rattle.kripke.specs.Ctl.{Formula}
 use Rattle.kripke.specs.declared.node.Node.{Node}
 use Rattle.kripke.specs.declared.refusal.Refusal.{Refusal}
-use Rattle.reader.specs.declared.token.Token.{Token}
 use Rattle.reader.specs.declared.token.Token.TheVariants.{End}
 use Rattle.reader.specs.declared.cursor.Cursor.{Cursor}
-use Rattle.reader.specs.Tokens.{Stream, tokens, first, rest, offset}
+use Rattle.reader.specs.Tokens.{Stream, lex, tokens, token_of, first, rest, offset}
 use Rattle.reader.specs.Grammar.{Sentence, Within}
 use Rattle.reader.specs.Table.{nodes, table, laid}
 use Rattle.reader.specs.Phrases.{Phrase, Then, Exact, Form, Refused}
 
--- The tokens that a cursor has before it.
-abbrev pub ahead : Cursor → Stream
-ahead c = tokens 0 c.at (drop c.at c.text.now)
+-- What is left of a cursor's text, and the tokens in it.
+abbrev pub left : Cursor → List ℕ
+left c = drop c.at c.text.now
 
--- From s to s' the token t at the place has been passed.
-pub record Passed (s : Stream) (t : Token) (place : ℕ) (s' : Stream) : Type 0 where
-  pub is : first s ≡ t
-  pub here : offset s ≡ place
+abbrev pub ahead : Cursor → Stream
+ahead c = tokens 0 c.at (left c)
+
+-- The first token of the stream s has been passed: it is the part, from its first byte to its last, which begins where the token stands and ends at the offset o, and s' is ahead then.
+pub record Passed (s : Stream) (part : List ℕ) (o : ℕ) (s' : Stream) : Type 0 where
+  pub is : first s ≡ token_of part
+  pub entire : (lex part).1 ≡ length part
+  pub here : offset s + length part ≡ o
   pub after : rest s ≡ s'
 
 -- A whole text: a formula, and then the end.

@@ -1,5 +1,6 @@
 -- Tokens: where each token of a text stands.
-use Rattle.std.specs.Prelude.{◌≡◌, ℕ, zero, suc, ◌+◌, ◌-◌, ◌*◌, Bool, cond, ◌&&◌, List, [], ◌∷◌, Some, None, Option, ◌==◌, nat_le}
+use Rattle.std.specs.Prelude.{◌≡◌, ℕ, zero, suc, ◌+◌, ◌-◌, ◌*◌, Bool, cond, ◌&&◌, List, [], ◌∷◌, ◌++◌, length, drop, map, replicate, Some, None, Option, ◌==◌, nat_le}
+use Rattle.std.specs.Option.{option_map}
 use Rattle.reader.specs.declared.token.Token.{Token}
 use Rattle.reader.specs.declared.token.Token.TheVariants.{Truth, Question, Alone, Sign, Other, End}
 use Rattle.reader.specs.declared.token.Token.TheVariants as token
@@ -24,6 +25,10 @@ operator [] = None
 operator (b ∷ []) = None
 operator (b ∷ c ∷ bs) = cond (b == 69) (step c EX EF EG) (cond (b == 65) (step c AX AF AG) None)
 
+-- The same, with the rest of the text.
+abbrev pub operator_split : List ℕ → Option (Unary × List ℕ)
+operator_split bs = option_map (λ (u : Unary). (u, drop 2 bs)) (operator bs)
+
 -- The number that follows the sign q, and how many digits it has: two if there are two and the first is not 0, else one.
 abbrev pub digit : ℕ → Bool
 digit d = nat_le 48 d && nat_le d 57
@@ -32,6 +37,10 @@ abbrev pub numeral : List ℕ → Option (ℕ × ℕ)
 numeral [] = None
 numeral (d ∷ []) = cond (digit d) (Some (d - 48, 1)) None
 numeral (d ∷ e ∷ bs) = cond (digit d) (cond (nat_le 49 d && digit e) (Some ((d - 48) * 10 + (e - 48), 2)) (Some (d - 48, 1))) None
+
+-- The same, with the rest of the text.
+abbrev pub numeral_split : List ℕ → Option (ℕ × List ℕ)
+numeral_split bs = option_map (λ (n : ℕ × ℕ). (n.0, drop n.1 bs)) (numeral bs)
 
 -- The token that a text begins with, and how many bytes it has.
 abbrev pub asking : Option (ℕ × ℕ) → Token × ℕ
@@ -46,6 +55,14 @@ abbrev pub lex : List ℕ → Token × ℕ
 lex [] = (End, 0)
 lex (b ∷ bs) = cond (b == 113) (asking (numeral bs)) (acting b (operator (b ∷ bs)))
 
+-- The same, with the rest of the text.
+abbrev pub token_split : List ℕ → Token × List ℕ
+token_split bs = ((lex bs).0, drop (lex bs).1 bs)
+
+-- What a part of a text is, as a token; the part with no bytes is the end.
+abbrev pub token_of : List ℕ → Token
+token_of part = (lex part).0
+
 -- The tokens of a text, each with its offset, the end of the text last.
 pub data Stream : Type 0 where
   done : ℕ → Stream
@@ -53,6 +70,11 @@ pub data Stream : Type 0 where
 
 abbrev pub is_space : ℕ → Bool
 is_space b = b == 32
+
+-- The text after the spaces that it begins with.
+abbrev pub unspaced : List ℕ → List ℕ
+unspaced [] = []
+unspaced (b ∷ bs) = cond (is_space b) (unspaced bs) (b ∷ bs)
 
 -- The tokens from offset o on, where the first k bytes of what is left belong to a token before. Bytes 32, spaces, are passed over.
 unfoldable pub tokens : ℕ → ℕ → List ℕ → Stream
@@ -83,3 +105,24 @@ abbrev pub After : Stream → List Token → Stream → Type 0
 After s [] s' = s ≡ s'
 After (done o) (t ∷ ts) s' = ⊥
 After (next o u s) (t ∷ ts) s' = (u ≡ t) × After s ts s'
+
+-- A part has been cut off a text: the text was some spaces, the part, and the rest.
+abbrev pub Cut : List ℕ → List ℕ → List ℕ → Type 0
+Cut text part rest = (spaces : ℕ) × (text ≡ replicate spaces 32 ++ (part ++ rest))
+
+-- A token as it stands in a text: the spaces before it, and its bytes, which are that token from the first to the last.
+pub record Part : Type 0 where
+  pub spaces : ℕ
+  pub bytes : List ℕ
+  pub token : Token
+  pub is : lex bytes ≡ (token, length bytes)
+
+abbrev pub text_of : List Part → List ℕ
+text_of [] = []
+text_of (p ∷ ps) = replicate p.spaces 32 ++ (p.bytes ++ text_of ps)
+
+-- A text is made of parts and the spaces before them, and the parts are the tokens.
+pub record MadeOf (text : List ℕ) (ts : List Token) : Type 0 where
+  pub parts : List Part
+  pub whole : text ≡ text_of parts
+  pub are : map (λ p. p.token) parts ≡ ts

@@ -8,14 +8,14 @@ use kripke::quantifier::Quantifier;
 
 // How an operator of two arguments begins: with (, or with E or A.
 #[derive(Clone, Copy)]
-pub enum Opening {
+pub(crate) enum Opening {
     Pair,
     Until(Quantifier),
 }
 
 // What a formula is, by its first token.
 #[derive(Clone, Copy)]
-pub enum Head {
+pub(crate) enum Head {
     Truth,
     Question(u8),
     Unary(Unary),

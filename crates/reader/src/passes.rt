@@ -2,7 +2,7 @@ ghost use Rattle.std.specs.Prelude.{◌≡◌, ℕ, length, MatchResult};
 ghost use Rattle.kripke.specs.Ctl.{Formula};
 ghost use Rattle.kripke.specs.Refusals.{JudgedBy};
 ghost use Rattle.kripke.specs.declared.refusal.Layer.TheVariants.{Text};
-ghost use Rattle.reader.specs.Breaches.{Breach, Complete, Limited, Readable, Reads, Refuses, Sooner};
+ghost use Rattle.reader.specs.Breaches.{TextBreach, Complete, Limited, Readable, Reads, Refuses, Sooner};
 
 use crate::TEXT_BYTES;
 use crate::reader::read_whole;
@@ -47,7 +47,12 @@ pub(crate) fn write_nodes(
     places: &mut [Node],
 ) -> Result<usize, Refusal>
     requires { (f : Formula) × Readable text.now questions (length places.old) f }
-    ensures judged { JudgedBy Sooner (Breach text.now questions (length places.old)) Text (Reads text.now questions places.old places.new) (places.new ≡ places.old) result }
+    ensures judged { JudgedBy Sooner result record {
+      breaches = TextBreach text.now questions (length places.old);
+      layer = Text;
+      accepted = Reads text.now questions places.old places.new;
+      refused = places.new ≡ places.old;
+    } }
     ensures complete { Complete text.now questions (length places.old) result }
 {
     read_whole(text, questions, places)

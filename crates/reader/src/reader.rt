@@ -1,4 +1,4 @@
-ghost use Rattle.std.specs.Prelude.{◌≡◌, ◌+◌, ◌^◌, ◌<◌, ◌≤◌, length};
+ghost use Rattle.std.specs.Prelude.{◌≡◌, ℕ, ◌+◌, ◌^◌, ◌<◌, ◌≤◌, length};
 ghost use Rattle.reader.specs.Phrases.{Form, Owes};
 ghost use Rattle.reader.specs.Reading.{Laying, Parsed, Pushed, ahead};
 ghost use Rattle.reader.specs.Tokens.{kinds};
@@ -6,15 +6,14 @@ ghost use Rattle.reader.specs.Tokens.{kinds};
 use crate::LEVELS;
 use crate::cursor::Cursor;
 use crate::head::Head;
-use crate::token::Token;
 use kripke::node::Node;
 use kripke::operator::Operator;
-use kripke::refusal::{Cause, Layer, Refusal};
+use kripke::refusal::Refusal;
 
 // A text that is read as a formula on so many questions, the places for its nodes, and how many have been made,
 // which may be more than there are places: the first pass has none, and only counts.
 #[derive(Drop)]
-pub struct Reader<'a> {
+pub(crate) struct Reader<'a> {
     cursor: Cursor<'a>,
     questions: usize,
     places: &'a mut [Node],
@@ -38,26 +37,26 @@ impl<'a> Reader<'a> {
         number as u16
     }
 
-    // A formula at the level: its nodes are made in order, and the number of its own, the last, is given.
-    fn formula(&mut self, level: u8) -> Result<u16, Refusal>
-        requires shallow { level ≤ 65 }
+    // A formula of so many levels at most: its nodes are made in order, and the number of its own, the last, is given.
+    fn formula(&mut self, levels: u8) -> Result<u16, Refusal>
+        requires shallow { levels ≤ 64 }
         requires room { self.old.count + length (kinds (ahead self.old.cursor)) ≤ 4097 }
         ensures same_questions { self.new.questions ≡ self.old.questions }
         ensures same_places { self.new.places.ghost_name ≡ self.old.places.ghost_name }
-        ensures owes { Owes (Form level) (λ f own. Laying self.old.count self.old.places.now f own self.new.count self.new.places.now) self.old.questions (ahead self.old.cursor) (ahead self.new.cursor) result }
+        ensures owes { (l : ℕ) → l + levels ≡ 65 → Owes (Form l) (λ f own. Laying self.old.count self.old.places.now f own self.new.count self.new.places.now) self.old.questions (ahead self.old.cursor) (ahead self.new.cursor) result }
     {
-        match self.cursor.head(self.questions, level)? {
+        match self.cursor.head(self.questions, levels)? {
             Head::Truth => Ok(self.push(Node::new(Operator::Truth, 0, 0))),
             Head::Question(j) => Ok(self.push(Node::new(Operator::Question, u16::from(j), 0))),
             Head::Unary(unary) => {
-                let a = self.formula(level + 1)?;
+                let a = self.formula(levels - 1)?;
                 Ok(self.push(Node::new(Operator::from(unary), a, 0)))
             }
             Head::Binary(opening) => {
                 self.cursor.open(opening)?;
-                let a = self.formula(level + 1)?;
+                let a = self.formula(levels - 1)?;
                 let operator = self.cursor.middle(opening)?;
-                let b = self.formula(level + 1)?;
+                let b = self.formula(levels - 1)?;
                 self.cursor.close(opening)?;
                 Ok(self.push(Node::new(operator, a, b)))
             }
@@ -80,10 +79,7 @@ pub(crate) fn read_whole(
         places,
         count: 0,
     };
-    reader.formula(1)?;
-    let (token, place) = reader.cursor.token();
-    match token {
-        Token::End => Ok(reader.count),
-        _ => Err(Layer::Text.refusal(Cause::Unexpected, place)),
-    }
+    reader.formula(LEVELS)?;
+    reader.cursor.end()?;
+    Ok(reader.count)
 }

@@ -4,7 +4,7 @@ use native.Mathlib.Decide.{ℕ_discrete}
 use Rattle.std.proofs.lemmas.Bool.{eq-eqb, ne_eqb}
 use Rattle.kripke.specs.Structure.{Kripke, answer}
 use Rattle.kripke.specs.Ctl.{Formula, truth, nesting}
-use Rattle.kripke.specs.Nodes.{formula, blank}
+use Rattle.kripke.specs.Nodes.{formula, blank_node}
 use Rattle.kripke.specs.Classes.{Low, Led}
 use Rattle.kripke.specs.declared.node.Node.{Node}
 use Rattle.kripke.proofs.Tables.{formula_new}
@@ -22,12 +22,12 @@ zeros zero s = refl
 zeros (suc n) zero = refl
 zeros (suc n) (suc s) = zeros n s
 
-module _ (z w : List ℕ) (ez : (s : ℕ) → get_or z s 0 ≡ 0) (ew : (s : ℕ) → get_or w s 0 ≡ 0) (ns : List Node) (e : ns ≡ [] ++ blank ∷ []) where
+module _ (z w : List ℕ) (ez : (s : ℕ) → get_or z s 0 ≡ 0) (ew : (s : ℕ) → get_or w s 0 ≡ 0) (ns : List Node) (e : ns ≡ [] ++ blank_node ∷ []) where
   pub one_long : length ns ≡ 1
   one_long = ap length e
 
   is_truth : (t : ℕ) → formula ns (get_or w (get_or z t 0) 0) ≡ truth
-  is_truth t = ap (λ (j : ℕ). formula ns j) (ew (get_or z t 0)) ∙ ap (λ (l : List Node). formula l 0) e ∙ formula_new [] blank 0 refl
+  is_truth t = ap (λ (j : ℕ). formula ns j) (ew (get_or z t 0)) ∙ ap (λ (l : List Node). formula l 0) e ∙ formula_new [] blank_node 0 refl
 
   pub one_low : (n : ℕ) → Low n z
   one_low n s h = omega (arith, ez s)
@@ -45,7 +45,7 @@ module _ (z w : List ℕ) (ez : (s : ℕ) → get_or z s 0 ≡ 0) (ew : (s : ℕ
   one_shallow t = subst (λ (f : Formula). nesting f ≤ 0) (sym (is_truth t)) (omega arith)
 
   pub one_orderly : (q : ℕ) → Orderly q ns
-  one_orderly q = orderly_push q [] ns blank e (λ i l. absurd (omega arith)) tt
+  one_orderly q = orderly_push q [] ns blank_node e (λ i l. absurd (omega arith)) tt
 
   count_one : (n : ℕ) → sum (λ i. bit (eqb (get_or z i 0) i)) (suc n) ≡ 1
   count_one zero = let q : eqb (get_or z 0 0) 0 ≡ true = eq-eqb _ _ (ez 0) in let r : bit (eqb (get_or z 0 0) 0) ≡ 1 = rw q refl in omega (arith, r)

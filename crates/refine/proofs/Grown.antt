@@ -2,7 +2,7 @@
 use Rattle.std.proofs.Common.{◌≡◌, ℕ, suc, ◌<◌, ◌≤◌, ◌&&◌, List, [], ◌∷◌, ◌++◌, length, get_or, sym, refl, ap, ◌∙◌, subst, Some, None, arith}
 use Rattle.std.proofs.lemmas.List.{length_push}
 use Rattle.kripke.specs.Ctl.{Formula, truth, and, nesting}
-use Rattle.kripke.specs.Nodes.{made, formulas, formula, blank}
+use Rattle.kripke.specs.Nodes.{made, formulas, formula, blank_node}
 use Rattle.kripke.specs.declared.node.Node.{Node}
 use Rattle.kripke.proofs.Tables.{formula_keeps, formula_new}
 use Rattle.refine.specs.Growth.{Extends, Names, Ready, Named, Conjoined}
@@ -57,7 +57,7 @@ pub ready : (q : ℕ) (ns : List Node) (test : Node) (x : ℕ) (f : Formula) →
 ready q ns test x f n = record { inside = n.inside; yes = refl; no = n.no ∙ ap Formula.not (sym n.yes) }
 
 -- Where a is `true`, the conjunction is b.
-pub conjoined_true : (ns : List Node) (a b : ℕ) → a < length ns → b < length ns → (get_or ns a blank).code ≡ 0 → Conjoined ns ns a b b
+pub conjoined_true : (ns : List Node) (a b : ℕ) → a < length ns → b < length ns → (get_or ns a blank_node).code ≡ 0 → Conjoined ns ns a b b
 conjoined_true ns a b la lb e =
     record {
       extends = extends_refl ns;
@@ -65,7 +65,7 @@ conjoined_true ns a b la lb e =
       inside = lb;
       orderly = λ q h. h;
       means = λ q h v w s.
-          (let t : formula ns a ≡ truth = node_is q ns h a la ∙ made_at (formulas ns) (get_or ns a blank) 0 e in
+          (let t : formula ns a ≡ truth = node_is q ns h a la ∙ made_at (formulas ns) (get_or ns a blank_node) 0 e in
           sym (ap (λ (f : Formula). v f s && v (formula ns b) s) t ∙ ap (λ z. z && v (formula ns b) s) (w.always s)));
       nests = λ d p r. r;
     }

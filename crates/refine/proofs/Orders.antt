@@ -4,7 +4,7 @@ use native.Mathlib.Decide.{ℕ_discrete}
 use Rattle.std.proofs.lemmas.Bool.{eqb-true, ltb-true, lt-ltb}
 use Rattle.std.proofs.lemmas.List.{get_or_append_left, get_or_push, length_push}
 use Rattle.kripke.specs.Ctl.{Formula, NextOnly}
-use Rattle.kripke.specs.Nodes.{constant, operators, applied, made, formulas, formula, Ordered, LawfulNode, WellFormed, blank}
+use Rattle.kripke.specs.Nodes.{constant, operators, applied, made, formulas, formula, Ordered, LawfulNode, WellFormed, blank_node}
 use Rattle.kripke.specs.declared.node.Node.{Node}
 use Rattle.kripke.proofs.Tables.{formula_at}
 use Rattle.refine.specs.Growth.{next_node, Orderly}
@@ -56,10 +56,10 @@ lawful_shape q i n (joins c a b) = subst (λ (k : ℕ). (k < length operators) �
 lawful_shape q i n (steps c a b) = subst (λ (k : ℕ). (k < length operators) × Ordered (get_or operators k constant) q i n.a n.b) (sym c) (lit< tt, (a, b))
 
 pub well_formed : (q : ℕ) (ns : List Node) → Orderly q ns → WellFormed q ns
-well_formed q ns h i l = lawful_shape q i (get_or ns i blank) (shape q i (get_or ns i blank) (h i l))
+well_formed q ns h i l = lawful_shape q i (get_or ns i blank_node) (shape q i (get_or ns i blank_node) (h i l))
 
 -- Node i is made of the formulas of the table.
-pub node_is : (q : ℕ) (ns : List Node) → Orderly q ns → (i : ℕ) → i < length ns → formula ns i ≡ made (formulas ns) (get_or ns i blank)
+pub node_is : (q : ℕ) (ns : List Node) → Orderly q ns → (i : ℕ) → i < length ns → formula ns i ≡ made (formulas ns) (get_or ns i blank_node)
 node_is q ns h i l = formula_at q ns (well_formed q ns h) i l
 
 -- What a node of a known code makes.
@@ -69,14 +69,14 @@ made_at fs n k e = ap (λ (c : ℕ). applied (get_or operators c constant) fs n.
 next_below : (q : ℕ) (ns : List Node) → Orderly q ns → (k i : ℕ) → i < k → i < length ns → NextOnly (formula ns i)
 next_below q ns h zero i b l = absurd (omega arith)
 next_below q ns h (suc k) i b l =
-    subst (λ (f : Formula). NextOnly f) (sym (node_is q ns h i l)) (go (shape q i (get_or ns i blank) (h i l)) (λ j m. next_below q ns h k j (omega arith) (omega arith)))
+    subst (λ (f : Formula). NextOnly f) (sym (node_is q ns h i l)) (go (shape q i (get_or ns i blank_node) (h i l)) (λ j m. next_below q ns h k j (omega arith) (omega arith)))
   where
-    go : Shape q i (get_or ns i blank) → ((j : ℕ) → j < i → NextOnly (formula ns j)) → NextOnly (made (formulas ns) (get_or ns i blank))
-    go (always c a d) r = subst (λ (f : Formula). NextOnly f) (sym (made_at (formulas ns) (get_or ns i blank) 0 c)) tt
-    go (asks c a d) r = subst (λ (f : Formula). NextOnly f) (sym (made_at (formulas ns) (get_or ns i blank) 1 c)) tt
-    go (denies c a d) r = subst (λ (f : Formula). NextOnly f) (sym (made_at (formulas ns) (get_or ns i blank) 2 c)) (r _ a)
-    go (joins c a d) r = subst (λ (f : Formula). NextOnly f) (sym (made_at (formulas ns) (get_or ns i blank) 3 c)) (r _ a, r _ d)
-    go (steps c a d) r = subst (λ (f : Formula). NextOnly f) (sym (made_at (formulas ns) (get_or ns i blank) 5 c)) (r _ a)
+    go : Shape q i (get_or ns i blank_node) → ((j : ℕ) → j < i → NextOnly (formula ns j)) → NextOnly (made (formulas ns) (get_or ns i blank_node))
+    go (always c a d) r = subst (λ (f : Formula). NextOnly f) (sym (made_at (formulas ns) (get_or ns i blank_node) 0 c)) tt
+    go (asks c a d) r = subst (λ (f : Formula). NextOnly f) (sym (made_at (formulas ns) (get_or ns i blank_node) 1 c)) tt
+    go (denies c a d) r = subst (λ (f : Formula). NextOnly f) (sym (made_at (formulas ns) (get_or ns i blank_node) 2 c)) (r _ a)
+    go (joins c a d) r = subst (λ (f : Formula). NextOnly f) (sym (made_at (formulas ns) (get_or ns i blank_node) 3 c)) (r _ a, r _ d)
+    go (steps c a d) r = subst (λ (f : Formula). NextOnly f) (sym (made_at (formulas ns) (get_or ns i blank_node) 5 c)) (r _ a)
 
 pub next_only : (q : ℕ) (ns : List Node) → Orderly q ns → (i : ℕ) → i < length ns → NextOnly (formula ns i)
 next_only q ns h i l = next_below q ns h (suc i) i (omega arith) l
@@ -86,8 +86,8 @@ orderly_push q ns ms n e h f = subst (λ (z : List Node). Orderly q z) (sym e) g
   where
     go : Orderly q (ns ++ n ∷ [])
     go i l = elim (ℕ_discrete i (length ns)) [
-      | yes z ↦ (let a : get_or (ns ++ n ∷ []) i blank ≡ n = get_or_push ns n blank i (sym z) in
+      | yes z ↦ (let a : get_or (ns ++ n ∷ []) i blank_node ≡ n = get_or_push ns n blank_node i (sym z) in
           subst (λ (m : Node). T (next_node q i m)) (sym a) (subst (λ (j : ℕ). T (next_node q j n)) (sym z) f))
       | no d ↦ (let b : i < length ns = omega (arith, length_push ns n) in
-          subst (λ (m : Node). T (next_node q i m)) (sym (get_or_append_left ns (n ∷ []) blank i b)) (h i b))
+          subst (λ (m : Node). T (next_node q i m)) (sym (get_or_append_left ns (n ∷ []) blank_node i b)) (h i b))
     ]

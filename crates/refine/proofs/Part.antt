@@ -1,5 +1,5 @@
 -- One class of a partition is parted by a row: its table, its nodes and their formulas.
-use Rattle.std.proofs.Common.{◌≡◌, ℕ, suc, ◌+◌, ◌<◌, ◌≤◌, Bool, true, false, cond, not, ◌&&◌, eqb, ◌≢◌, List, length, get_or, set, vec_items, sym, refl, ap, ◌∙◌, subst, Option, arith}
+use Rattle.std.proofs.Common.{◌≡◌, ℕ, suc, ◌+◌, ◌<◌, ◌≤◌, Bool, true, false, cond, not, ◌&&◌, eqb, ◌≢◌, List, length, get_or, set, sym, refl, ap, ◌∙◌, subst, Option, arith}
 use mathlib.Core.Bool.{beq}
 use Rattle.std.proofs.lemmas.List.{get_or-set_same, get_or-set_other, length-set}
 use Rattle.kripke.specs.Ctl.{Formula, nesting}
@@ -76,8 +76,8 @@ other_number true x k e = omega (arith, e)
 other_number false x k e = omega (arith, e)
 
 abbrev pub cut : (p : Partition) (s : ℕ) (row : List Bool) → Odd p s row → p.states ≤ length p.node
-    → (test : Node) (name : Option ℕ) → Ready p.questions (vec_items p.nodes.list) test name
-    → (ns : List Node) (x : ℕ) → Named (vec_items p.nodes.list) ns test name x
+    → (test : Node) (name : Option ℕ) → Ready p.questions p.nodes.list.items test name
+    → (ns : List Node) (x : ℕ) → Named p.nodes.list.items ns test name x
     → (i j : ℕ) → i ≡ from_bool (at row s) → j ≡ from_bool (not (at row s))
     → (m1 ms : List Node) (stay leave : ℕ) → Conjoined ns m1 (get_or p.node (get_or p.class s 0) 0) (x + i) stay
     → Conjoined m1 ms (get_or p.node (get_or p.class s 0) 0) (x + j) leave
@@ -165,13 +165,13 @@ module _ (k : Cut) where
   node_s : get_or nd' k.s 0 ≡ k.leave
   node_s = get_or-set_same (set k.nd c k.stay) k.s k.leave 0 (omega (arith, length-set k.nd c k.stay, k.state, k.fit))
 
-  node_other : (e : ℕ) → (e ≡ c → ⊥) → (e ≡ k.s → ⊥) → get_or nd' e 0 ≡ get_or k.nd e 0
+  node_other : (e : ℕ) → (¬ e ≡ c) → (¬ e ≡ k.s) → get_or nd' e 0 ≡ get_or k.nd e 0
   node_other e p q = get_or-set_other (set k.nd c k.stay) k.s e k.leave 0 q ∙ get_or-set_other k.nd c e k.stay 0 p
 
   stay_same : formula k.ms k.stay ≡ formula k.m1 k.stay
   stay_same = k.leave_made.extends.same k.stay k.stay_made.inside
 
-  same_formula : (t : ℕ) → t < k.n → (of k.cl t ≡ c → ⊥) → (of k.cl t ≡ k.s → ⊥)
+  same_formula : (t : ℕ) → t < k.n → (¬ of k.cl t ≡ c) → (¬ of k.cl t ≡ k.s)
       → formula k.ms (get_or nd' (of k.cl t) 0) ≡ formula k.ns (get_or k.nd (of k.cl t) 0)
   same_formula t h p q = ap (λ i. formula k.ms i) (node_other (of k.cl t) p q) ∙ part_extends.same (get_or k.nd (of k.cl t) 0) (k.here t h)
 

@@ -1,20 +1,12 @@
 -- What a structure that was read has from the law of its model.
-use Rattle.std.proofs.Common.{◌≡◌, ℕ, ◌<◌, ◌≤◌, List, [], ◌∷◌, map, length, get_or, sym, ◌∙◌, subst, arith}
-use Rattle.std.proofs.lemmas.List.{length-map, same_lists, get_or-map, get_or_default}
+use Rattle.std.proofs.Common.{◌≡◌, ℕ, ◌<◌, ◌≤◌, List, map, length, sym, subst, arith}
+use Rattle.std.proofs.lemmas.List.{length-map}
 use Rattle.kripke.specs.Structure.{Kripke, Member, Lawful, size, state, successors}
 use Rattle.refine.specs.Rows.{state_of, structure}
 use Rattle.refine.specs.declared.row.Row.{Row}
 
 pub structure_is : (initial : ℕ) (rows : List Row) (k : Kripke) → initial ≡ k.initial → map state_of rows ≡ k.states → structure initial rows ≡ k
 structure_is initial rows k p q = λ i. record { initial = p i; states = q i }
-
--- Rows that are the states of a structure, place by place.
-pub rows_are : (rows : List Row) (k : Kripke) → length rows ≡ size k → ((s : ℕ) (d : Row) → s < length rows → state_of (get_or rows s d) ≡ state k s)
-    → map state_of rows ≡ k.states
-rows_are [] k e h = same_lists [] k.states e (λ i d l. absurd (omega arith))
-rows_are (r ∷ rows) k e h = same_lists (map state_of (r ∷ rows)) k.states (length-map (r ∷ rows) state_of ∙ e) (λ i d l.
-    let b : i < length (r ∷ rows) = omega (arith, l, length-map (r ∷ rows) state_of) in
-    get_or-map state_of (r ∷ rows) i r d b ∙ h i r b ∙ get_or_default k.states i _ d (omega (arith, b, e)))
 
 module _ (q initial : ℕ) (rows : List Row) (k : Kripke) (is : structure initial rows ≡ k) (law : Lawful q k) where
   abbrev u : Kripke

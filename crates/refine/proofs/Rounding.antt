@@ -1,5 +1,5 @@
 -- One round: the classes split by each class before, and what that makes of states and their successors.
-use Rattle.std.proofs.Common.{◌≡◌, ℕ, suc, ◌+◌, ◌<◌, ◌≤◌, Bool, T, ◌↔◌, eqb, List, [], ◌∷◌, length, get_or, vec_items, sym, refl, ap, ◌∙◌, subst, arith}
+use Rattle.std.proofs.Common.{◌≡◌, ℕ, suc, ◌+◌, ◌<◌, ◌≤◌, Bool, T, ◌↔◌, eqb, List, [], ◌∷◌, length, get_or, sym, refl, ap, ◌∙◌, subst, arith}
 use native.Mathlib.Decide.{ℕ_discrete}
 use Rattle.std.proofs.Math.Bool.{or-false, or_self}
 use Rattle.std.proofs.lemmas.Bool.{eq-eqb, eqb-true}
@@ -31,8 +31,8 @@ pub record Refining (u : Kripke) (p q : Partition) (i : ℕ) : Type 0 where
   pub shallow : (d : ℕ) → Shallow d p → Shallow (suc d) q
 
 module _ (u : Kripke) (p q : Partition) (i : ℕ) (h : Refining u p q i) (c name : ℕ) (cn : c < p.states) (lead : class_of p c ≡ c) (nm : name ≡ get_or p.node c 0) where
-  here : name < length (vec_items p.nodes.list)
-  here = rw nm (subst (λ (v : ℕ). get_or p.node v 0 < length (vec_items p.nodes.list)) lead (p.here c cn))
+  here : name < length p.nodes.list.items
+  here = rw nm (subst (λ (v : ℕ). get_or p.node v 0 < length p.nodes.list.items) lead (p.here c cn))
 
   same : node_formula q name ≡ class_formula p c
   same = h.keeps.extends.same name here ∙ ap (λ (j : ℕ). node_formula p j) (nm ∙ ap (λ (v : ℕ). get_or p.node v 0) (sym lead))

@@ -1,5 +1,5 @@
 -- A state read out of a table's rows, and a numbered state of both structures.
-use Rattle.std.proofs.Common.{◌≡◌, ℕ, ◌+◌, ◌-◌, ◌<◌, ◌≤◌, List, [], ◌∷◌, map, length, get_or, vec_items, sym, refl, ap, ◌∙◌, subst, ⊎_elim, zero-add, arith}
+use Rattle.std.proofs.Common.{◌≡◌, ℕ, ◌+◌, ◌-◌, ◌<◌, ◌≤◌, List, [], ◌∷◌, map, length, get_or, sym, refl, ap, ◌∙◌, subst, ⊎_elim, zero-add, arith}
 use Rattle.std.proofs.lemmas.Bool.{cases_lt}
 use Rattle.std.proofs.lemmas.List.{get_or-map, length-map}
 use Rattle.refine.specs.Tables.{structure_of}
@@ -23,7 +23,7 @@ row_size start rows = length-map rows state_of
 -- The structure of a table is lawful.
 pub table_lawful : (t : Table) → Lawful t.questions (structure_of t)
 table_lawful t =
-    let e : size (structure_of t) ≡ length (vec_items t.rows) = row_size t.initial (vec_items t.rows) in
+    let e : size (structure_of t) ≡ length t.rows.items = row_size t.initial t.rows.items in
     record {
       some = omega (arith, e, t.some);
       few = omega (arith, e, t.few);
@@ -44,25 +44,25 @@ plus_none (x ∷ l) = ap (λ (y : ℕ). y ∷ map (λ (t : ℕ). 0 + t) l) (zero
 moved_none : (s : State) → moved 0 s ≡ s
 moved_none s = λ i. record { answers = s.answers; next = plus_none s.next i }
 
-pub row_first : (t : Table) (b : Kripke) (i : ℕ) (r : Row) → i < length (vec_items t.rows) → r ≡ get_or (vec_items t.rows) i r
+pub row_first : (t : Table) (b : Kripke) (i : ℕ) (r : Row) → i < length t.rows.items → r ≡ get_or t.rows.items i r
     → state (both (structure_of t) b) i ≡ moved 0 (state_of r)
 row_first t b i r l e =
-    both_first (structure_of t) b i (omega (arith, l, row_size t.initial (vec_items t.rows)))
-    ∙ row_state_lem t.initial (vec_items t.rows) i r l e ∙ sym (moved_none (state_of r))
+    both_first (structure_of t) b i (omega (arith, l, row_size t.initial t.rows.items))
+    ∙ row_state_lem t.initial t.rows.items i r l e ∙ sym (moved_none (state_of r))
 
-pub row_second : (a : Kripke) (t : Table) (i n : ℕ) (r : Row) → n ≡ size a → n ≤ i → i - n < length (vec_items t.rows) → r ≡ get_or (vec_items t.rows) (i - n) r
+pub row_second : (a : Kripke) (t : Table) (i n : ℕ) (r : Row) → n ≡ size a → n ≤ i → i - n < length t.rows.items → r ≡ get_or t.rows.items (i - n) r
     → state (both a (structure_of t)) i ≡ moved n (state_of r)
 row_second a t i n r s f l e =
     ap (λ (j : ℕ). state (both a (structure_of t)) j) (let z : i ≡ size a + (i - n) = omega (arith, s, f) in z)
-    ∙ both_second a (structure_of t) (i - n) (omega (arith, l, row_size t.initial (vec_items t.rows)))
-    ∙ ap (λ (x : State). moved (size a) x) (row_state_lem t.initial (vec_items t.rows) (i - n) r l e)
+    ∙ both_second a (structure_of t) (i - n) (omega (arith, l, row_size t.initial t.rows.items))
+    ∙ ap (λ (x : State). moved (size a) x) (row_state_lem t.initial t.rows.items (i - n) r l e)
     ∙ ap (λ (m : ℕ). moved m (state_of r)) (sym s)
 
 pub pair_size : (p : Pair) → size (both_of p) ≡ total (first_of p) (second_of p)
 pair_size p = both_size (first_of p) (second_of p)
 
-pub pair_total : (p : Pair) → total (first_of p) (second_of p) ≡ length (vec_items p.first.rows) + length (vec_items p.second.rows)
-pair_total p = omega (arith, row_size p.first.initial (vec_items p.first.rows), row_size p.second.initial (vec_items p.second.rows))
+pub pair_total : (p : Pair) → total (first_of p) (second_of p) ≡ length p.first.rows.items + length p.second.rows.items
+pair_total p = omega (arith, row_size p.first.initial p.first.rows.items, row_size p.second.initial p.second.rows.items)
 
 pub pair_closed : (p : Pair) → Closed (both_of p)
 pair_closed p = both_closed (first_of p) (second_of p) (table_lawful p.first).closed (table_lawful p.second).closed
@@ -78,18 +78,18 @@ long_answers q a b la lb i h = ⊎_elim
     (cases_lt i (size a))
 
 module _ (p : Pair) (i low : ℕ) (r : Row) (l : i < total (first_of p) (second_of p)) (e : state (both_of p) i ≡ moved low (state_of r)) where
-  pub row_answers : length (vec_items r.answers) ≡ p.first.questions
+  pub row_answers : length r.answers.items ≡ p.first.questions
   row_answers =
       sym (ap (λ (x : State). length x.answers) e)
       ∙ long_answers p.first.questions (first_of p) (second_of p) (table_lawful p.first) (subst (λ (n : ℕ). Lawful n (second_of p)) p.level (table_lawful p.second)) i l
 
 -- The successors of a row, numbered on, are states of both structures.
 pub row_inside : (a b : Table) (i low : ℕ) (r : Row) → i < total (structure_of a) (structure_of b) → state (both (structure_of a) (structure_of b)) i ≡ moved low (state_of r)
-    → (k : ℕ) → k < length (vec_items r.next) → low + get_or (vec_items r.next) k 0 < total (structure_of a) (structure_of b)
+    → (k : ℕ) → k < length r.next.items → low + get_or r.next.items k 0 < total (structure_of a) (structure_of b)
 row_inside a b i low r l e k h =
     let f : ℕ → ℕ = λ t. low + t in
     let u : Kripke = both (structure_of a) (structure_of b) in
-    let m : Member (get_or (map f (vec_items r.next)) k 0) (successors u i) =
-    subst (λ (s : State). Member (get_or (map f (vec_items r.next)) k 0) s.next) (sym e) (member_at (map f (vec_items r.next)) k (omega (arith, h, length-map (vec_items r.next) f))) in
+    let m : Member (get_or (map f r.next.items) k 0) (successors u i) =
+    subst (λ (s : State). Member (get_or (map f r.next.items) k 0) s.next) (sym e) (member_at (map f r.next.items) k (omega (arith, h, length-map r.next.items f))) in
     let size_is : size u ≡ total (structure_of a) (structure_of b) = both_size (structure_of a) (structure_of b) in
-    omega (arith, (both_closed (structure_of a) (structure_of b) (table_lawful a).closed (table_lawful b).closed).inside i _ (omega (arith, l, size_is)) m, get_or-map f (vec_items r.next) k 0 0 h, size_is)
+    omega (arith, (both_closed (structure_of a) (structure_of b) (table_lawful a).closed (table_lawful b).closed).inside i _ (omega (arith, l, size_is)) m, get_or-map f r.next.items k 0 0 h, size_is)

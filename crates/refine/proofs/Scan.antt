@@ -1,5 +1,5 @@
 -- The scan of a split: classes parted one after another.
-use Rattle.std.proofs.Common.{◌≡◌, ℕ, ◌+◌, ◌<◌, ◌≤◌, Bool, true, false, eqb, List, length, get_or, vec_items, sym, refl, ap, ◌∙◌, subst, ⊎_elim, Option, Some, None, arith}
+use Rattle.std.proofs.Common.{◌≡◌, ℕ, ◌+◌, ◌<◌, ◌≤◌, Bool, true, false, eqb, List, length, get_or, sym, refl, ap, ◌∙◌, subst, ⊎_elim, Option, Some, None, arith}
 use mathlib.Core.Bool.{beq}
 use native.Mathlib.Decide.{ℕ_discrete}
 use Rattle.std.proofs.lemmas.Bool.{ne_eqb}
@@ -7,11 +7,11 @@ use Rattle.kripke.specs.Ctl.{Formula, nesting}
 use Rattle.kripke.specs.Classes.{Alike}
 use Rattle.kripke.specs.declared.node.Node.{Node}
 use Rattle.refine.specs.Classes.{leaders, bit}
-use Rattle.refine.specs.Steps.{at, class_of, Exact, Shallow, Tells, Odd, Keeps, Parted, Divided, own}
+use Rattle.refine.specs.Steps.{at, class_of, Exact, Shallow, Values, Odd, Keeps, Parted, Divided, own}
 use Rattle.refine.specs.declared.partition.Partition.{Partition}
 use Rattle.refine.proofs.Sums.{sum_less, sum_mono, sum_ones, bit_le}
 use Rattle.refine.proofs.Part.{beq_refl}
-use Rattle.refine.specs.Growth.{Boolean, Names, Ready, told}
+use Rattle.refine.specs.Growth.{Boolean, Names, Ready, test_formula}
 use Rattle.refine.proofs.Grown.{extends_refl, extends_trans, ready}
 use Rattle.refine.proofs.Step.{ways, one_before, one_after, new_s0}
 
@@ -21,7 +21,7 @@ pub record Scanned (p q : Partition) (f : Formula) (row : List Bool) (i : ℕ) :
   pub finer : (s t : ℕ) → s < p.states → t < p.states → Alike q.class s t → Alike p.class s t
   pub kept : (s t : ℕ) → s < p.states → t < p.states → Alike p.class s t → at row s ≡ at row t → Alike q.class s t
   pub sorted : (t : ℕ) → t < i → at row (class_of q t) ≡ at row t
-  pub exact : (v : Formula → ℕ → Bool) → Boolean v → Tells v p f row → Exact v p → Exact v q
+  pub exact : (v : Formula → ℕ → Bool) → Boolean v → Values v p f row → Exact v p → Exact v q
   pub shallow : (d : ℕ) → nesting f ≤ d → Shallow d p → Shallow d q
 
 beq_eq : (a b : Bool) → beq a b ≡ true → a ≡ b
@@ -44,24 +44,24 @@ odd_fewer p s row o =
       sum_less (λ i. bit (eqb (get_or p.class i 0) i)) (λ i. 1) p.states (λ i h. bit_le (eqb (get_or p.class i 0) i)) s o.state l,
     )
 
-pub room_left : (p : Partition) (s : ℕ) (row : List Bool) → Odd p s row → length (vec_items p.nodes.list) + 4 ≤ 2048
+pub room_left : (p : Partition) (s : ℕ) (row : List Bool) → Odd p s row → length p.nodes.list.items + 4 ≤ 2048
 room_left p s row o = omega (arith, odd_fewer p s row o, p.spare, p.few, p.counted)
 
 pub keeps_refl : (p : Partition) → Keeps p p
-keeps_refl p = record { states = refl; questions = refl; extends = extends_refl (vec_items p.nodes.list); more = omega arith; still = λ h. refl }
+keeps_refl p = record { states = refl; questions = refl; extends = extends_refl p.nodes.list.items; more = omega arith; still = λ h. refl }
 
 pub keeps_trans : (p q r : Partition) → Keeps p q → Keeps q r → Keeps p r
 keeps_trans p q r h k =
     record {
       states = k.states ∙ h.states;
       questions = k.questions ∙ h.questions;
-      extends = extends_trans (vec_items p.nodes.list) (vec_items q.nodes.list) (vec_items r.nodes.list) h.extends k.extends;
+      extends = extends_trans p.nodes.list.items q.nodes.list.items r.nodes.list.items h.extends k.extends;
       more = omega (arith, h.more, k.more);
       still = λ l. k.still (omega (arith, l, h.more)) ∙ h.still (omega (arith, l, k.more));
     }
 
 -- A row that tells of the states before tells of them after.
-tells_on : (v : Formula → ℕ → Bool) (p q : Partition) (f : Formula) (row : List Bool) → Keeps p q → Tells v p f row → Tells v q f row
+tells_on : (v : Formula → ℕ → Bool) (p q : Partition) (f : Formula) (row : List Bool) → Keeps p q → Values v p f row → Values v q f row
 tells_on v p q f row k w t h = w t (omega (arith, h, k.states))
 
 pub scanned_none : (p : Partition) (f : Formula) (row : List Bool) → Scanned p p f row 0
@@ -136,10 +136,10 @@ odd_here p q f row i r h l e d = record { state = omega (arith, l, h.keeps.state
 -- From p to r the states below i were scanned, and the test stands where `name` says.
 pub record Splitting (p r : Partition) (test : Node) (row : List Bool) (name : Option ℕ) (i : ℕ) : Type 0 where
   pub scanned : Scanned p r (own p test) row i
-  pub ready : Ready r.questions (vec_items r.nodes.list) test name
-  pub same : told (vec_items r.nodes.list) test name ≡ own p test
+  pub ready : Ready r.questions r.nodes.list.items test name
+  pub same : test_formula r.nodes.list.items test name ≡ own p test
 
-pub splitting_none : (p : Partition) (test : Node) (row : List Bool) → Ready p.questions (vec_items p.nodes.list) test None → Splitting p p test row None 0
+pub splitting_none : (p : Partition) (test : Node) (row : List Bool) → Ready p.questions p.nodes.list.items test None → Splitting p p test row None 0
 splitting_none p test row h = record { scanned = scanned_none p (own p test) row; ready = h; same = refl }
 
 pub splitting_skip : (p q : Partition) (test : Node) (row : List Bool) (name : Option ℕ) (i : ℕ) → Splitting p q test row name i
@@ -147,11 +147,11 @@ pub splitting_skip : (p q : Partition) (test : Node) (row : List Bool) (name : O
 splitting_skip p q test row name i h e = record { scanned = scanned_skip p q (own p test) row i h.scanned e; ready = h.ready; same = h.same }
 
 pub splitting_step : (p q r : Partition) (test : Node) (row : List Bool) (name : Option ℕ) (x i : ℕ) → Splitting p q test row name i → Odd q i row
-    → Parted q r (told (vec_items q.nodes.list) test name) i row → Names (vec_items r.nodes.list) x (told (vec_items q.nodes.list) test name)
+    → Parted q r (test_formula q.nodes.list.items test name) i row → Names r.nodes.list.items x (test_formula q.nodes.list.items test name)
     → Splitting p r test row (Some x) (i + 1)
 splitting_step p q r test row name x i h o d n = record {
   scanned = scanned_step p q r (own p test) row i h.scanned o (subst (λ (f : Formula). Parted q r f i row) h.same d);
-  ready = ready r.questions (vec_items r.nodes.list) test x _ n;
+  ready = ready r.questions r.nodes.list.items test x _ n;
   same = n.yes ∙ h.same;
 }
 

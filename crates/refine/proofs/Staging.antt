@@ -13,25 +13,25 @@ use Rattle.refine.specs.Classes.{leaders, bit, sum}
 use Rattle.refine.specs.Tests.{test}
 use Rattle.refine.specs.Steps.{Exact}
 use Rattle.refine.specs.Rounding.{One, Asking, Rounded}
-use Rattle.refine.specs.Stages.{Told}
+use Rattle.refine.specs.Stages.{ExactByTest}
 use Rattle.refine.specs.declared.partition.Partition.{Partition}
 use Rattle.refine.proofs.Rowed.{long_answers}
 use Rattle.refine.proofs.Somes.{bools, T-yes}
 use Rattle.refine.proofs.Sums.{sum_same}
 use Rattle.refine.proofs.Step.{eqb_or}
 
-pub told_exact : (u : Kripke) (p : Partition) → Told u p → Exact (test u) p
-told_exact u p h t s ht hs = (beq-T _ _).0 (h t s ht hs)
+pub test_exact : (u : Kripke) (p : Partition) → ExactByTest u p → Exact (test u) p
+test_exact u p h t s ht hs = (beq-T _ _).0 (h t s ht hs)
 
-pub exact_told : (u : Kripke) (p : Partition) → Exact (test u) p → Told u p
-exact_told u p h t s ht hs = (beq-T _ _).1 (h t s ht hs)
+pub exact_test : (u : Kripke) (p : Partition) → Exact (test u) p → ExactByTest u p
+exact_test u p h t s ht hs = (beq-T _ _).1 (h t s ht hs)
 
 -- The states with their own number are as many as the count says.
 count_leaders : (class : List ℕ) (n : ℕ) → Count (λ i. get_or class i 0 ≡ i) n (sum (λ i. bit (eqb (get_or class i 0) i)) n)
 count_leaders class zero = none
 count_leaders class (suc n) = go (count_leaders class n) (eqb_or (get_or class n 0) n)
   where
-    go : Count (λ i. get_or class i 0 ≡ i) n (sum (λ i. bit (eqb (get_or class i 0) i)) n) → ((eqb (get_or class n 0) n ≡ true) × (get_or class n 0 ≡ n)) ⊎ ((eqb (get_or class n 0) n ≡ false) × (get_or class n 0 ≡ n → ⊥))
+    go : Count (λ i. get_or class i 0 ≡ i) n (sum (λ i. bit (eqb (get_or class i 0) i)) n) → ((eqb (get_or class n 0) n ≡ true) × (get_or class n 0 ≡ n)) ⊎ ((eqb (get_or class n 0) n ≡ false) × (¬ get_or class n 0 ≡ n))
         → Count (λ i. get_or class i 0 ≡ i) (suc n) (bit (eqb (get_or class n 0) n) + sum (λ i. bit (eqb (get_or class i 0) i)) n)
     go k (inl e) = rw (e.0, one-add) (more n _ k e.1)
     go k (inr e) = rw (e.0, zero-add) (pass n _ k e.1)
@@ -98,7 +98,7 @@ module _ (a b : Kripke) (la : Closed a) (lb : Closed b) (k : ℕ) (p r : Partiti
   pub next_pace : suc k ≤ p.count → cond (eqb r.count p.count) (suc k) (suc (suc k)) ≤ r.count
   next_pace h = go (eqb_or r.count p.count)
     where
-      go : ((eqb r.count p.count ≡ true) × (r.count ≡ p.count)) ⊎ ((eqb r.count p.count ≡ false) × (r.count ≡ p.count → ⊥))
+      go : ((eqb r.count p.count ≡ true) × (r.count ≡ p.count)) ⊎ ((eqb r.count p.count ≡ false) × (¬ r.count ≡ p.count))
           → cond (eqb r.count p.count) (suc k) (suc (suc k)) ≤ r.count
       go (inl e) = rw e.0 (omega (arith, e.1, h))
       go (inr e) = rw e.0 (omega (arith, e.1, h, d.keeps.more))

@@ -5,7 +5,7 @@ use Rattle.std.proofs.lemmas.Bool.{eq-eqb, ne_eqb, cases_Bool}
 use Rattle.refine.specs.Classes.{bit, sum}
 use Rattle.refine.proofs.Sums.{sum_more}
 
-pub eqb_or : (a b : ℕ) → ((eqb a b ≡ true) × (a ≡ b)) ⊎ ((eqb a b ≡ false) × (a ≡ b → ⊥))
+pub eqb_or : (a b : ℕ) → ((eqb a b ≡ true) × (a ≡ b)) ⊎ ((eqb a b ≡ false) × (¬ a ≡ b))
 eqb_or a b = elim (ℕ_discrete a b) [ yes e ↦ inl (eq-eqb a b e, e) | no d ↦ inr (ne_eqb a b d, d) ]
 
 -- One class, that of `c`, is parted: its states where `y` is true get the number `s0`.
@@ -24,7 +24,7 @@ module _ (n : ℕ) (cl new : ℕ → ℕ) (y : ℕ → Bool) (c s0 : ℕ)
   pub ways : (t : ℕ) → t < n → Moved t ⊎ Stays t
   ways t h = go (eqb_or (cl t) c) (cases_Bool (y t))
     where
-      go : ((eqb (cl t) c ≡ true) × (cl t ≡ c)) ⊎ ((eqb (cl t) c ≡ false) × (cl t ≡ c → ⊥)) → (y t ≡ true) ⊎ (y t ≡ false) → Moved t ⊎ Stays t
+      go : ((eqb (cl t) c ≡ true) × (cl t ≡ c)) ⊎ ((eqb (cl t) c ≡ false) × (¬ cl t ≡ c)) → (y t ≡ true) ⊎ (y t ≡ false) → Moved t ⊎ Stays t
       go (inl e) (inl q) = inl (e.1, q, is t h ∙ rw (e.0, q) refl)
       go (inl e) (inr q) = inr (λ z. q, is t h ∙ rw (e.0, q) refl)
       go (inr e) q = inr (λ z. absurd (e.1 z), is t h ∙ rw e.0 refl)
@@ -35,11 +35,11 @@ module _ (n : ℕ) (cl new : ℕ → ℕ) (y : ℕ → Bool) (c s0 : ℕ)
   pub c_led : cl c ≡ c
   c_led = let z = led s0 in0 in subst (λ (v : ℕ). cl v ≡ v) of0 z
 
-  pub apart : s0 ≡ c → ⊥
+  pub apart : ¬ s0 ≡ c
   apart e = let z : y s0 ≡ y c = ap y e in let w : ◌≡◌ {A = ℕ} 0 1 = cc in omega arith
 
   -- no class was called s0
-  pub unused : (t : ℕ) → t < n → cl t ≡ s0 → ⊥
+  pub unused : (t : ℕ) → t < n → ¬ cl t ≡ s0
   unused t h e = let z = led t h in apart (let p : cl s0 ≡ s0 = cc in sym p ∙ of0)
 
   pub low_after : (t : ℕ) → t < n → new t ≤ t
@@ -48,7 +48,7 @@ module _ (n : ℕ) (cl new : ℕ → ℕ) (y : ℕ → Bool) (c s0 : ℕ)
       (λ m. omega (arith, m.1, low t h)) (ways t h)
     where
       elim_lt : cl t ≡ c → y t ≡ true → new t ≡ s0 → new t ≤ t
-      elim_lt e q w = let f : t < s0 → ⊥ = λ l. (let a : y t ≡ false = first t l e in let z : ◌≡◌ {A = ℕ} 0 1 = cc in omega arith) in omega (arith, f)
+      elim_lt e q w = let f : ¬ t < s0 = λ l. (let a : y t ≡ false = first t l e in let z : ◌≡◌ {A = ℕ} 0 1 = cc in omega arith) in omega (arith, f)
 
   pub new_c : new c ≡ c
   new_c = is c cn ∙ rw yc (go (eqb (cl c) c))
@@ -82,10 +82,10 @@ module _ (n : ℕ) (cl new : ℕ → ℕ) (y : ℕ → Bool) (c s0 : ℕ)
   pub one_after : (s t : ℕ) → s < n → t < n → cl s ≡ cl t → (cl s ≡ c → y s ≡ y t) → new s ≡ new t
   one_after s t hs ht e z = go (ways s hs) (ways t ht)
     where
-      no : y s ≡ true → y t ≡ false → cl s ≡ c → ⊥
+      no : y s ≡ true → y t ≡ false → ¬ cl s ≡ c
       no a b d = let w = z d in let v : ◌≡◌ {A = ℕ} 0 1 = cc in omega arith
 
-      no' : y s ≡ false → y t ≡ true → cl s ≡ c → ⊥
+      no' : y s ≡ false → y t ≡ true → ¬ cl s ≡ c
       no' a b d = let w = z d in let v : ◌≡◌ {A = ℕ} 0 1 = cc in omega arith
 
       go : Moved s ⊎ Stays s → Moved t ⊎ Stays t → new s ≡ new t
@@ -109,7 +109,7 @@ module _ (n : ℕ) (cl new : ℕ → ℕ) (y : ℕ → Bool) (c s0 : ℕ)
   module _ (f g : ℕ → ℕ → Bool) (ex : (t s : ℕ) → t < n → s < n → f (cl t) s ≡ eqb (cl s) (cl t))
       (gc : (s : ℕ) → s < n → g c s ≡ (f c s && not (y s)))
       (g0 : (s : ℕ) → s < n → g s0 s ≡ (f c s && y s))
-      (other : (t s : ℕ) → t < n → s < n → (cl t ≡ c → ⊥) → (cl t ≡ s0 → ⊥) → g (cl t) s ≡ f (cl t) s) where
+      (other : (t s : ℕ) → t < n → s < n → (¬ cl t ≡ c) → (¬ cl t ≡ s0) → g (cl t) s ≡ f (cl t) s) where
     fc : (s : ℕ) → s < n → f c s ≡ eqb (cl s) c
     fc s h = let e : cl s0 ≡ c = of0 in subst (λ (v : ℕ). f v s ≡ eqb (cl s) v) of0 (ex s0 s in0 h)
 
@@ -120,7 +120,7 @@ module _ (n : ℕ) (cl new : ℕ → ℕ) (y : ℕ → Bool) (c s0 : ℕ)
         (λ m. rw (ne_eqb (new s) s0 (λ z. unused s h (sym m.1 ∙ z))) (go (eqb_or (cl s) c) m.0))
         (ways s h)))
       where
-        go : ((eqb (cl s) c ≡ true) × (cl s ≡ c)) ⊎ ((eqb (cl s) c ≡ false) × (cl s ≡ c → ⊥)) → (cl s ≡ c → y s ≡ false) → (eqb (cl s) c && y s) ≡ false
+        go : ((eqb (cl s) c ≡ true) × (cl s ≡ c)) ⊎ ((eqb (cl s) c ≡ false) × (¬ cl s ≡ c)) → (cl s ≡ c → y s ≡ false) → (eqb (cl s) c && y s) ≡ false
         go (inl e) q = rw (e.0, q e.1) refl
         go (inr e) q = rw e.0 refl
 
@@ -131,12 +131,12 @@ module _ (n : ℕ) (cl new : ℕ → ℕ) (y : ℕ → Bool) (c s0 : ℕ)
         (λ m. rw m.1 (go (eqb_or (cl s) c) m.0))
         (ways s h)))
       where
-        go : ((eqb (cl s) c ≡ true) × (cl s ≡ c)) ⊎ ((eqb (cl s) c ≡ false) × (cl s ≡ c → ⊥)) → (cl s ≡ c → y s ≡ false) → (eqb (cl s) c && not (y s)) ≡ eqb (cl s) c
+        go : ((eqb (cl s) c ≡ true) × (cl s ≡ c)) ⊎ ((eqb (cl s) c ≡ false) × (¬ cl s ≡ c)) → (cl s ≡ c → y s ≡ false) → (eqb (cl s) c && not (y s)) ≡ eqb (cl s) c
         go (inl e) q = rw (e.0, q e.1) refl
         go (inr e) q = rw e.0 refl
 
     -- any other class
-    at_other : (t s : ℕ) → t < n → s < n → (cl t ≡ c → ⊥) → g (cl t) s ≡ eqb (new s) (cl t)
+    at_other : (t s : ℕ) → t < n → s < n → (¬ cl t ≡ c) → g (cl t) s ≡ eqb (new s) (cl t)
     at_other t s ht hs d = other t s ht hs d (unused t ht) ∙ ex t s ht hs ∙ ⊎_elim
         (λ m. ne_eqb (cl s) (cl t) (λ z. d (sym z ∙ m.0)) ∙ sym (ne_eqb (new s) (cl t) (λ z. unused t ht (sym z ∙ m.2))))
         (λ m. rw m.1 refl)
@@ -152,7 +152,7 @@ module _ (n : ℕ) (cl new : ℕ → ℕ) (y : ℕ → Bool) (c s0 : ℕ)
         (ways t ht)
 
   -- what holds of the nodes of c and s0 now, and of the other classes' nodes before, holds of each class's node
-  pub each_after : (P : ℕ → Type 0) → P c → P s0 → ((t : ℕ) → t < n → (cl t ≡ c → ⊥) → (cl t ≡ s0 → ⊥) → P (cl t)) → (t : ℕ) → t < n → P (new t)
+  pub each_after : (P : ℕ → Type 0) → P c → P s0 → ((t : ℕ) → t < n → (¬ cl t ≡ c) → (¬ cl t ≡ s0) → P (cl t)) → (t : ℕ) → t < n → P (new t)
   each_after P pc p0 po t h = ⊎_elim
       (λ m. subst P (sym m.2) p0)
       (λ m. subst P (sym m.1) (elim (ℕ_discrete (cl t) c) [ yes e ↦ subst P (sym e) pc | no d ↦ po t h d (unused t h) ]))

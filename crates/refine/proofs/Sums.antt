@@ -27,7 +27,7 @@ sum_same g h zero e = refl
 sum_same g h (suc n) e = omega (arith, e n (omega arith), sum_same g h n (λ i l. e i (omega arith)))
 
 -- Two sums that differ by one at one place.
-pub sum_more : (g h : ℕ → ℕ) (n s : ℕ) → s < n → ((i : ℕ) → i < n → (i ≡ s → ⊥) → h i ≡ g i) → h s ≡ suc (g s) → sum h n ≡ suc (sum g n)
+pub sum_more : (g h : ℕ → ℕ) (n s : ℕ) → s < n → ((i : ℕ) → i < n → (¬ i ≡ s) → h i ≡ g i) → h s ≡ suc (g s) → sum h n ≡ suc (sum g n)
 sum_more g h zero s l e d = absurd (omega arith)
 sum_more g h (suc n) s l e d = elim (ℕ_discrete s n) [
   | yes q ↦ (let d' : h n ≡ suc (g n) = subst (λ j. h j ≡ suc (g j)) q d in

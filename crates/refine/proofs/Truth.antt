@@ -6,7 +6,7 @@ use Rattle.kripke.proofs.Reflect.{T_true, and_T, some-T}
 use Rattle.kripke.proofs.Walks.{through, second}
 use Rattle.refine.specs.Tests.{test}
 
-not_T : (b : Bool) → T (not b) ↔ (T b → ⊥)
+not_T : (b : Bool) → T (not b) ↔ (¬ T b)
 not_T true = (λ h. absurd h, λ h. h tt)
 not_T false = (λ h z. z, λ h. tt)
 

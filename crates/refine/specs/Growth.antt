@@ -1,7 +1,7 @@
 -- Tables of next-only nodes that grow at their end, and valuations of formulas at numbered states.
 use Rattle.std.specs.Prelude.{◌≡◌, ℕ, suc, ◌+◌, ◌<◌, ◌≤◌, Bool, true, false, cond, not, ◌&&◌, T, List, length, ◌==◌, nat_lt, slice_index_or, Option, Some, None}
 use Rattle.kripke.specs.Ctl.{Formula, truth, and, nesting}
-use Rattle.kripke.specs.Nodes.{made, formulas, formula, blank}
+use Rattle.kripke.specs.Nodes.{made, formulas, formula, blank_node}
 use Rattle.kripke.specs.declared.node.Node.{Node}
 
 -- Node i of a table for q questions is in order, and is true, a question, not, and, EX.
@@ -14,7 +14,7 @@ next_node q i n =
     (cond (n.code == 5) (nat_lt n.a i && n.b == 0) false))))
 
 abbrev pub Orderly : ℕ → List Node → Type 0
-Orderly q ns = (i : ℕ) → i < length ns → T (next_node q i (slice_index_or ns i blank))
+Orderly q ns = (i : ℕ) → i < length ns → T (next_node q i (slice_index_or ns i blank_node))
 
 -- A table that has grown: its nodes mean what they meant.
 pub record Extends (ns ms : List Node) : Type 0 where
@@ -34,9 +34,9 @@ pub record Names (ns : List Node) (x : ℕ) (f : Formula) : Type 0 where
   pub no : formula ns (suc x) ≡ Formula.not f
 
 -- The formula of a test: that of the node where it stands, else its own.
-abbrev pub told : List Node → Node → Option ℕ → Formula
-told ns test None = made (formulas ns) test
-told ns test (Some x) = formula ns x
+abbrev pub test_formula : List Node → Node → Option ℕ → Formula
+test_formula ns test None = made (formulas ns) test
+test_formula ns test (Some x) = formula ns x
 
 -- The test stands at a node, or is in order as the next one.
 abbrev pub Ready : ℕ → List Node → Node → Option ℕ → Type 0
@@ -47,7 +47,7 @@ Ready q ns test (Some x) = Names ns x (formula ns x)
 pub record Named (ns ms : List Node) (test : Node) (known : Option ℕ) (r : ℕ) : Type 0 where
   pub extends : Extends ns ms
   pub count : length ms ≤ length ns + 2
-  pub names : Names ms r (told ns test known)
+  pub names : Names ms r (test_formula ns test known)
   pub orderly : (q : ℕ) → Ready q ns test known → Orderly q ns → Orderly q ms
 
 -- The conjunction of nodes a and b stands at r.

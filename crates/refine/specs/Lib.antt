@@ -1,6 +1,7 @@
 pub mod Rows
 pub mod Tests
 pub mod Tables
+pub mod Chains
 pub mod Sources
 pub mod Pairs
 pub mod Growth

@@ -8,8 +8,8 @@ use Rattle.refine.specs.Steps.{class_of, class_formula}
 use Rattle.refine.specs.declared.partition.Partition.{Partition}
 
 -- Each class's formula holds exactly at its members, where u is both structures as one.
-abbrev pub Told : Kripke → Partition → Type 0
-Told u p = (t s : ℕ) → t < p.states → s < p.states → T (beq (test u (class_formula p t) s) (class_of p s == class_of p t))
+abbrev pub ExactByTest : Kripke → Partition → Type 0
+ExactByTest u p = (t s : ℕ) → t < p.states → s < p.states → T (beq (test u (class_formula p t) s) (class_of p s == class_of p t))
 
 -- The last of k rounds split nothing.
 abbrev pub rested : Kripke → Kripke → ℕ → Bool

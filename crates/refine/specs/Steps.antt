@@ -1,5 +1,5 @@
 -- What one split does to a partition.
-use Rattle.std.specs.Prelude.{◌≡◌, ℕ, suc, ◌<◌, ◌≤◌, Bool, false, cond, ◌&&◌, ◌↔◌, List, vec_items, ◌==◌, slice_index, slice_index_or}
+use Rattle.std.specs.Prelude.{◌≡◌, ℕ, suc, ◌<◌, ◌≤◌, Bool, false, cond, ◌&&◌, ◌↔◌, List, ◌==◌, slice_index, slice_index_or}
 use Rattle.std.specs.Bool.{beq}
 use Rattle.kripke.specs.Ctl.{Formula, nesting}
 use Rattle.kripke.specs.Nodes.{made, formulas, formula}
@@ -13,7 +13,7 @@ at row s = slice_index_or row s false
 
 -- The formula of a node; the class number of a state; the formula of a state's class.
 abbrev pub node_formula : Partition → ℕ → Formula
-node_formula p i = formula (vec_items p.nodes.list) i
+node_formula p i = formula p.nodes.list.items i
 
 abbrev pub class_of : Partition → ℕ → ℕ
 class_of p s = slice_index p.class s
@@ -35,11 +35,11 @@ renumbered class row c s t = cond (slice_index class t == c && beq (at row t) (a
 
 -- The formula of a test that the partition's nodes do not have yet.
 abbrev pub own : Partition → Node → Formula
-own p test = made (formulas (vec_items p.nodes.list)) test
+own p test = made (formulas p.nodes.list.items) test
 
 -- The formula holds where the row says yes.
-abbrev pub Tells : (Formula → ℕ → Bool) → Partition → Formula → List Bool → Type 0
-Tells v p f row = (t : ℕ) → t < p.states → v f t ≡ at row t
+abbrev pub Values : (Formula → ℕ → Bool) → Partition → Formula → List Bool → Type 0
+Values v p f row = (t : ℕ) → t < p.states → v f t ≡ at row t
 
 -- s is the first state whose class's least state is on the other side of the row.
 pub record Odd (p : Partition) (s : ℕ) (row : List Bool) : Type 0 where
@@ -51,7 +51,7 @@ pub record Odd (p : Partition) (s : ℕ) (row : List Bool) : Type 0 where
 pub record Keeps (p q : Partition) : Type 0 where
   pub states : q.states ≡ p.states
   pub questions : q.questions ≡ p.questions
-  pub extends : Extends (vec_items p.nodes.list) (vec_items q.nodes.list)
+  pub extends : Extends p.nodes.list.items q.nodes.list.items
   pub more : p.count ≤ q.count
   pub still : q.count ≤ p.count → q.class ≡ p.class
 
@@ -60,12 +60,12 @@ pub record Parted (p q : Partition) (f : Formula) (s : ℕ) (row : List Bool) : 
   pub keeps : Keeps p q
   pub count : q.count ≡ suc p.count
   pub class : (t : ℕ) → t < p.states → class_of q t ≡ renumbered p.class row (class_of p s) s t
-  pub exact : (v : Formula → ℕ → Bool) → Boolean v → Tells v p f row → Exact v p → Exact v q
+  pub exact : (v : Formula → ℕ → Bool) → Boolean v → Values v p f row → Exact v p → Exact v q
   pub shallow : (d : ℕ) → nesting f ≤ d → Shallow d p → Shallow d q
 
 -- Every class was split by the row: the formula of the test, true where the row says yes, is all that the new classes' formulas needed.
 pub record Divided (p q : Partition) (test : Node) (row : List Bool) : Type 0 where
   pub keeps : Keeps p q
   pub classes : (s t : ℕ) → s < p.states → t < p.states → Alike q.class s t ↔ (Alike p.class s t × (at row s ≡ at row t))
-  pub exact : (v : Formula → ℕ → Bool) → Boolean v → Tells v p (own p test) row → Exact v p → Exact v q
+  pub exact : (v : Formula → ℕ → Bool) → Boolean v → Values v p (own p test) row → Exact v p → Exact v q
   pub shallow : (d : ℕ) → nesting (own p test) ≤ d → Shallow d p → Shallow d q

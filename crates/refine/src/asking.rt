@@ -1,23 +1,11 @@
-ghost use Rattle.std.specs.Prelude.{◌≡◌, ℕ, ◌<◌, ◌≤◌, ◌||◌, false, length, slice_index, slice_index_or};
+ghost use Rattle.std.specs.Prelude.{◌≡◌, ℕ, ◌<◌, ◌≤◌, false, slice_index_or};
 ghost use Rattle.kripke.specs.Rounds.{total};
 ghost use Rattle.kripke.specs.Structure.{answer};
 ghost use Rattle.refine.specs.Pairs.{both_of, first_of, second_of};
-ghost use Rattle.refine.specs.Sources.{has};
-ghost use Rattle.refine.specs.Steps.{at};
 ghost use Rattle.refine.specs.Tests.{hits};
 
 use crate::pair::Pair;
-use crate::sources::row;
-
-// Says yes at each of the states.
-fn mark(row: &mut [bool; 512], states: &[usize])
-    requires { (i : ℕ) → i < length states.now → slice_index states.now i < 512 }
-    ensures { (x : ℕ) → x < 512 → at row.new x ≡ (has x states.now || at row.old x) }
-{
-    for s in states {
-        row[*s] = true;
-    }
-}
+use crate::turning::row;
 
 impl Pair {
     // How many states there are in all.
@@ -65,9 +53,9 @@ impl Pair {
             → slice_index_or result i false ≡ hits (both_of self.now) class.now c i }
     {
         let mut row = [false; 512];
-        for (t, sources) in self.sources.iter().enumerate() {
+        for t in 0..self.states() {
             if class[t] == c {
-                mark(&mut row, &sources.list);
+                self.sources.mark(t, &mut row);
             }
         }
         row

@@ -14,8 +14,8 @@ impl Nodes {
         ensures { Named self.old.list.items self.new.list.items test None result }
     {
         let x = self.list.len() as u16;
-        self.list.push_reserved(test);
-        self.list.push_reserved(Node::new(Operator::Not, x, 0));
+        self.list.push(test);
+        self.list.push(Node::new(Operator::Not, x, 0));
         x
     }
 
@@ -42,7 +42,7 @@ impl Nodes {
             return b;
         }
         let r = self.list.len() as u16;
-        self.list.push_reserved(Node::new(Operator::And, a, b));
+        self.list.push(Node::new(Operator::And, a, b));
         r
     }
 }

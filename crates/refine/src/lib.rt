@@ -15,3 +15,4 @@ pub mod sources;
 mod split;
 pub mod stages;
 pub mod table;
+mod turning;

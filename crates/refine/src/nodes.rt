@@ -1,21 +1,22 @@
-ghost use Rattle.std.specs.Prelude.{◌≡◌, ◌≤◌, [], IfOk, vec_capacity};
+ghost use Rattle.std.specs.Prelude.{◌≡◌, []};
 
+use arrayvec::ArrayVec;
 use kripke::node::Node;
-use std::alloc::{AllocError, Global};
 
-// A table of nodes with room for the largest formula of a comparison: it grows without asking for memory.
+/// A table of nodes with room for 2,048, which is more than the formula of a comparison can have.
 #[derive(Drop)]
 pub struct Nodes {
-    pub list: Vec<Node>,
-    ghost room: { 2048 ≤ vec_capacity list },
+    /// The nodes, the last one the root.
+    pub list: ArrayVec<Node, 2048>,
 }
 
 impl Nodes {
-    // No node yet. Want of memory is the only error.
-    pub fn with_room(heap: Global) -> Result<Nodes, AllocError>
-        ensures { IfOk result (λ n. n.list.items ≡ []) }
+    /// A table of no node.
+    pub fn new() -> Nodes
+        ensures { result.list.items ≡ [] }
     {
-        let list = Vec::with_capacity(heap, 2048)?;
-        Ok(Nodes { list })
+        Nodes {
+            list: ArrayVec::new(),
+        }
     }
 }

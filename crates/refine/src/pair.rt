@@ -1,35 +1,38 @@
-ghost use Rattle.std.specs.Prelude.{◌≡◌, length, IfOk};
+ghost use Rattle.std.specs.Prelude.{◌≡◌};
 ghost use Rattle.kripke.specs.Rounds.{total};
 ghost use Rattle.kripke.specs.Union.{both};
 ghost use Rattle.refine.specs.Sources.{Leads};
 ghost use Rattle.refine.specs.Tables.{structure_of};
 
-use crate::sources::{Sources, reverse};
+use crate::sources::Sources;
 use crate::table::Table;
-use std::alloc::{AllocError, Global};
+use crate::turning::reverse;
 
-// Two structures whose labels answer the same questions, and for each state the states that lead to it. The states of both are numbered through.
+/// Two structures whose labels answer the same questions, and for each state the states that lead to it. The states of both are numbered through,
+/// those of the second after those of the first.
 #[derive(Drop)]
 pub struct Pair {
+    /// The first structure.
     pub first: Table,
+    /// The second.
     pub second: Table,
-    pub sources: Vec<Sources>,
+    /// The states that lead to each state.
+    pub sources: Sources,
     ghost level: { second.questions ≡ first.questions },
-    ghost long: { length sources.items ≡ total (structure_of first) (structure_of second) },
-    ghost leads: { Leads (both (structure_of first) (structure_of second)) sources.items (total (structure_of first) (structure_of second)) },
+    ghost leads: { Leads (both (structure_of first) (structure_of second)) sources (total (structure_of first) (structure_of second)) },
 }
 
 impl Pair {
-    pub(crate) fn new(heap: Global, first: Table, second: Table) -> Result<Pair, AllocError>
+    pub(crate) fn new(first: Table, second: Table) -> Pair
         requires { second.questions ≡ first.questions }
-        ensures first { IfOk result (λ p. p.first ≡ first) }
-        ensures second { IfOk result (λ p. p.second ≡ second) }
+        ensures first { result.first ≡ first }
+        ensures second { result.second ≡ second }
     {
-        let sources = reverse(heap, &first, &second)?;
-        Ok(Pair {
+        let sources = reverse(&first, &second);
+        Pair {
             first,
             second,
             sources,
-        })
+        }
     }
 }

@@ -5,17 +5,22 @@ ghost use Rattle.refine.specs.Growth.{Orderly};
 
 use crate::nodes::Nodes;
 
-// Numbered states in classes, each with the node of a formula. A class goes by its least state.
-// The tables are arrays, of which the first `states` places count: a round works from a copy of them, and must not ask for memory.
+/// Numbered states in classes, each class with the node of a formula that holds at its states alone. A class goes by its least state.
+///
+/// The tables are arrays, of which the first `states` places count: a round works from a copy of them, and must not ask for memory.
 #[derive(Drop)]
 pub struct Partition {
+    /// How many states there are, 512 at most.
     pub states: u16,
+    /// How many questions their labels answer.
     pub questions: usize,
-    // The class of each state, and the node of each class.
+    /// The class of each state.
     pub class: [u16; 512],
+    /// The node of each class.
     pub node: [u16; 512],
+    /// The table of the nodes, at most 4 C - 3 for C classes.
     pub nodes: Nodes,
-    // How many classes there are.
+    /// How many classes there are.
     pub count: u16,
     ghost few: { states ≤ 512 },
     // At most four nodes for each class but the first, and one.

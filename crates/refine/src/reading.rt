@@ -1,65 +1,70 @@
-ghost use Rattle.std.specs.Prelude.{◌≡◌, ℕ, ◌<◌, length, slice_index_or, IfOk};
+ghost use Rattle.std.specs.Prelude.{◌≡◌, ◌<◌, map};
 ghost use Rattle.kripke.specs.Structure.{size, state, successors};
 ghost use Rattle.refine.specs.Rows.{state_of, structure};
-ghost use Rattle.refine.specs.declared.row.Row.{Row};
 
 use crate::row::Row;
 use crate::table::Table;
+use arrayvec::ArrayVec;
 use kripke::label::Label;
 use kripke::model::Model;
-use std::alloc::{AllocError, Global};
 
 // The answers of a label, question by question.
-fn answers<L: Label>(heap: Global, label: &L) -> Result<Vec<bool>, AllocError>
-    ensures { IfOk result (λ v. v.items ≡ L.Label.answers label.now) }
+fn answers<L: Label>(label: &L) -> ArrayVec<bool, 32>
+    ensures { result.items ≡ L.Label.answers label.now }
 {
-    (0..L::questions()).map(|i| label.answer(i)).collect(heap)
+    let mut answers = ArrayVec::new();
+    for i in 0..L::questions() {
+        answers.push(label.answer(i));
+    }
+    answers
 }
 
 // The successors of state s in their order.
-fn next<M: Model>(heap: Global, model: &M, s: usize) -> Result<Vec<usize>, AllocError>
-    ensures { IfOk result (λ v. v.items ≡ successors (M.Model.meaning model.now) s) }
+fn next<M: Model>(model: &M, s: usize) -> ArrayVec<u16, 16>
+    requires { s < size (M.Model.meaning model.now) }
+    ensures { result.items ≡ successors (M.Model.meaning model.now) s }
 {
-    (0..model.degree(s))
-        .map(|i| model.successor(s, i))
-        .collect(heap)
+    let mut next = ArrayVec::new();
+    for i in 0..model.degree(s) {
+        next.push(model.successor(s, i) as u16);
+    }
+    next
 }
 
 // State s of the model.
-fn row<L: Label, M: Model<Label = L>>(heap: Global, model: &M, s: usize) -> Result<Row, AllocError>
-    ensures { IfOk result (λ w. state_of w ≡ state (M.Model.meaning model.now) s) }
+fn row<L: Label, M: Model<Label = L>>(model: &M, s: usize) -> Row
+    requires { s < size (M.Model.meaning model.now) }
+    ensures { state_of result ≡ state (M.Model.meaning model.now) s }
 {
     let label = model.label(s);
-    let answers = answers(heap, &label)?;
-    let next = next(heap, model, s)?;
-    Ok(Row { answers, next })
+    Row {
+        answers: answers(&label),
+        next: next(model, s),
+    }
 }
 
 // The states of the model in their order.
-fn rows<L: Label, M: Model<Label = L>>(heap: Global, model: &M) -> Result<Vec<Row>, AllocError>
-    ensures long { IfOk result (λ v. length v.items ≡ size (M.Model.meaning model.now)) }
-    ensures each { IfOk result (λ v. (s : ℕ) (d : Row) → s < length v.items
-        → state_of (slice_index_or v.items s d) ≡ state (M.Model.meaning model.now) s) }
+fn rows<L: Label, M: Model<Label = L>>(model: &M) -> ArrayVec<Row, 256>
+    ensures { map state_of result.items ≡ (M.Model.meaning model.now).states }
 {
-    (0..model.states())
-        .map(|s| row(heap, model, s))
-        .try_collect(heap)
+    let mut rows = ArrayVec::new();
+    for s in 0..model.states() {
+        rows.push(row(model, s));
+    }
+    rows
 }
 
 // The whole model, asked state by state.
-pub(crate) fn read<L: Label, M: Model<Label = L>>(
-    heap: Global,
-    model: &M,
-) -> Result<Table, AllocError>
-    ensures structure { IfOk result (λ t. structure t.initial t.rows.items ≡ M.Model.meaning model.now) }
-    ensures questions { IfOk result (λ t. t.questions ≡ L.Label.count) }
+pub(crate) fn read<L: Label, M: Model<Label = L>>(model: &M) -> Table
+    ensures structure { structure result.initial result.rows.items ≡ M.Model.meaning model.now }
+    ensures questions { result.questions ≡ L.Label.count }
 {
     let questions = L::questions();
     let initial = model.initial();
-    let rows = rows(heap, model)?;
-    Ok(Table {
+    let rows = rows(model);
+    Table {
         questions,
         initial,
         rows,
-    })
+    }
 }

@@ -3,25 +3,28 @@ ghost use Rattle.kripke.specs.Classes.{Low, Numbered};
 ghost use Rattle.kripke.specs.Rounds.{total};
 ghost use Rattle.refine.specs.Pairs.{both_of, first_of, second_of};
 ghost use Rattle.refine.specs.Rounding.{Tried};
-ghost use Rattle.refine.specs.Stages.{Told, rested};
+ghost use Rattle.refine.specs.Stages.{ExactByTest, rested};
 ghost use Rattle.refine.specs.Steps.{Shallow};
 
 use crate::pair::Pair;
 use crate::partition::Partition;
 
-// Two structures, and the classes of their states after some rounds.
+/// Two structures, and the classes of their states after some rounds. docs/LOGIC.md, "The comparison", has how a round splits them.
 #[derive(Drop)]
 pub struct Refinement {
+    /// The structures.
     pub pair: Pair,
+    /// The classes of their states.
     pub parts: Partition,
-    // The class of each state before the last round, or before the labels were looked at: all states were in one class then.
+    /// The class of each state before the last round, or before the labels were looked at: all states were in one class then.
     pub before: [u16; 512],
+    /// How many rounds were made.
     pub rounds: usize,
-    // The last round split nothing.
+    /// The last round split nothing.
     pub rests: bool,
     ghost long: { parts.states ≡ total (first_of pair) (second_of pair) },
     ghost asks: { parts.questions ≡ pair.first.questions },
-    ghost told: { Told (both_of pair) parts },
+    ghost exact: { ExactByTest (both_of pair) parts },
     ghost shallow: { Shallow rounds parts },
     ghost low: { Low parts.states before },
     ghost tried: { Tried (both_of pair) parts.states before parts.class },

@@ -1,4 +1,4 @@
-ghost use Rattle.std.specs.Prelude.{◌≡◌, ℕ, ◌<◌, ◌≤◌, ◌↔◌, T, false, length, slice_index, IfOk, ◌==◌};
+ghost use Rattle.std.specs.Prelude.{◌≡◌, ℕ, ◌<◌, ◌≤◌, ◌↔◌, T, false, length, slice_index, ◌==◌};
 ghost use Rattle.kripke.specs.Classes.{Low};
 ghost use Rattle.kripke.specs.Rounds.{total};
 ghost use Rattle.refine.specs.Growth.{next_node};
@@ -11,7 +11,6 @@ use crate::pair::Pair;
 use crate::partition::Partition;
 use kripke::node::Node;
 use kripke::operator::Operator;
-use std::alloc::{AllocError, Global};
 
 // Which classes have gained or lost a state between the two tables.
 fn changed(before: &[u16; 512], class: &[u16; 512], states: u16) -> [bool; 512]
@@ -31,26 +30,22 @@ fn changed(before: &[u16; 512], class: &[u16; 512], states: u16) -> [bool; 512]
 }
 
 impl Partition {
-    // All states in one class, whose formula is `true`. Every node that a comparison can need is reserved.
-    pub(crate) fn whole(
-        heap: Global,
-        states: u16,
-        questions: usize,
-    ) -> Result<Partition, AllocError>
+    // All states in one class, whose formula is `true`.
+    pub(crate) fn whole(states: u16, questions: usize) -> Partition
         requires some { 1 ≤ states }
         requires few { states ≤ 512 }
-        ensures { IfOk result (λ p. One states questions p) }
+        ensures { One states questions result }
     {
-        let mut nodes = Nodes::with_room(heap)?;
-        nodes.list.push_reserved(Node::new(Operator::Truth, 0, 0));
-        Ok(Partition {
+        let mut nodes = Nodes::new();
+        nodes.list.push(Node::new(Operator::Truth, 0, 0));
+        Partition {
             states,
             questions,
             class: [0; 512],
             node: [0; 512],
             nodes,
             count: 1,
-        })
+        }
     }
 
     // Splits the classes by each question.

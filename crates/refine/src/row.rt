@@ -1,6 +1,10 @@
-// One state as read: the answers of its label, and its successors.
-#[derive(Drop)]
+use arrayvec::ArrayVec;
+
+/// One state as it was read from a model.
+#[derive(Default, Drop)]
 pub struct Row {
-    pub answers: Vec<bool>,
-    pub next: Vec<usize>,
+    /// The answers of its label, question by question.
+    pub answers: ArrayVec<bool, 32>,
+    /// Its successors in their order.
+    pub next: ArrayVec<u16, 16>,
 }

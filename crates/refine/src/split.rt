@@ -1,5 +1,5 @@
 ghost use Rattle.std.specs.Prelude.{◌≡◌, ℕ, ◌<◌, ◌≤◌, T, length, slice_index};
-ghost use Rattle.refine.specs.Growth.{Names, Ready, next_node, told};
+ghost use Rattle.refine.specs.Growth.{Names, Ready, next_node, test_formula};
 ghost use Rattle.refine.specs.Steps.{Divided, Odd, Parted, at, class_of, renumbered};
 ghost use Rattle.std.specs.Bool.{beq};
 
@@ -25,8 +25,8 @@ impl Partition {
     fn part(&mut self, s: u16, test: Node, name: Option<u16>, row: &[bool; 512]) -> u16
         requires ready { Ready self.old.questions self.old.nodes.list.items test name }
         requires odd { Odd self.old s row.now }
-        ensures parted { Parted self.old self.new (told self.old.nodes.list.items test name) s row.now }
-        ensures named { Names self.new.nodes.list.items result (told self.old.nodes.list.items test name) }
+        ensures parted { Parted self.old self.new (test_formula self.old.nodes.list.items test name) s row.now }
+        ensures named { Names self.new.nodes.list.items result (test_formula self.old.nodes.list.items test name) }
     {
         let x = self.nodes.name(test, name);
         let c = self.class[s as usize];

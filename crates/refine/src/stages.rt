@@ -1,4 +1,4 @@
-ghost use Rattle.std.specs.Prelude.{◌≡◌, suc, false, IfOk};
+ghost use Rattle.std.specs.Prelude.{◌≡◌, suc, false};
 ghost use Rattle.kripke.specs.Classes.{Classes};
 ghost use Rattle.refine.specs.Refinements.{Advanced, Opened, first, second};
 
@@ -8,30 +8,26 @@ use crate::reading::read;
 use crate::refinement::Refinement;
 use kripke::label::Label;
 use kripke::model::Model;
-use std::alloc::{AllocError, Global};
 
 impl Refinement {
-    // Two models of one label kind, and the classes of their states by their labels. Want of memory is the only error.
+    /// Reads two models of one label kind, and splits their states by their labels. No round is made yet. It allocates nothing, and cannot fail.
     pub fn open<L: Label, M: Model<Label = L>, N: Model<Label = L>>(
-        heap: Global,
         first: &M,
         second: &N,
-    ) -> Result<Refinement, AllocError>
-        ensures { IfOk result (λ s. Opened L.Label.count (M.Model.meaning first.now) (N.Model.meaning second.now) s) }
+    ) -> Refinement
+        ensures { Opened L.Label.count (M.Model.meaning first.now) (N.Model.meaning second.now) result }
     {
-        let first = read(heap, first)?;
-        let second = read(heap, second)?;
-        let pair = Pair::new(heap, first, second)?;
-        let mut parts = Partition::whole(heap, pair.states() as u16, pair.first.questions)?;
+        let pair = Pair::new(read(first), read(second));
+        let mut parts = Partition::whole(pair.states() as u16, pair.first.questions);
         let before = parts.class;
         parts.ask_all(&pair);
-        Ok(Refinement {
+        Refinement {
             pair,
             parts,
             before,
             rounds: 0,
             rests: false,
-        })
+        }
     }
 
     // One round more.
@@ -53,7 +49,7 @@ impl Refinement {
         self.parts.count as usize
     }
 
-    // One round more, unless the last one split nothing; how many classes there are.
+    /// One round more, unless the last one split nothing: then it changes nothing. How many classes there are after it.
     pub fn round(&mut self) -> usize
         ensures { Advanced self.old self.new result }
     {

@@ -3,13 +3,17 @@ ghost use Rattle.kripke.specs.Structure.{Member, state, successors};
 ghost use Rattle.refine.specs.Rows.{structure};
 
 use crate::row::Row;
+use arrayvec::ArrayVec;
 
-// A structure as read, and the number of questions that its labels answer.
+/// A lawful structure as it was read from a model (docs/LOGIC.md, "Models").
 #[derive(Drop)]
 pub struct Table {
+    /// How many questions its labels answer.
     pub questions: usize,
+    /// The number of the initial state.
     pub initial: usize,
-    pub rows: Vec<Row>,
+    /// The states, 1 to 256.
+    pub rows: ArrayVec<Row, 256>,
     ghost asks: { questions ≤ 32 },
     ghost some: { 1 ≤ length rows.items },
     ghost few: { length rows.items ≤ 256 },

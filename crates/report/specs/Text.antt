@@ -47,8 +47,8 @@ abbrev pub Exceeds : Report → ℕ → Type 0
 Exceeds report room = (2045 < node_count report) ⊎ (room < length (report_text report))
 
 -- The one breach of a report.
-pub data Breach (report : Report) (room : ℕ) : Cause → ℕ → Type 0 where
-  size : Exceeds report room → Breach report room ReportSize 0
+pub data ReportBreach (report : Report) (room : ℕ) : Cause → ℕ → Type 0 where
+  size : Exceeds report room → ReportBreach report room ReportSize 0
 
 -- The length of a report's text; the refusal of a report with too many nodes.
 abbrev pub Measured : Report → Result ℕ Refusal → Type 0

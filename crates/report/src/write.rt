@@ -2,7 +2,7 @@ ghost use Rattle.std.specs.Prelude.{◌≡◌, length};
 ghost use Rattle.kripke.specs.Refusals.{Judged, JudgedInMemory};
 ghost use Rattle.kripke.specs.declared.refusal.Layer.TheVariants.{Report as ReportLayer};
 ghost use Rattle.report.specs.Puts.{Written};
-ghost use Rattle.report.specs.Text.{Breach, Measured, report_text};
+ghost use Rattle.report.specs.Text.{ReportBreach, Measured, report_text};
 
 use crate::cursor::write_text;
 use crate::report::Report;
@@ -22,9 +22,16 @@ fn text_length(report: Report) -> Result<usize, Refusal>
     }
 }
 
-// Writes the report's text from the start of the bytes, and answers its length. The rest of the bytes stays, and all of them if the report is refused.
+/// Writes the report's text (docs/FORMATS.md, "The report") from the start of the bytes, and answers its length in bytes. The rest of the bytes stays as it was.
+///
+/// Refuses with 22, in layer 7, at place 0, and with all bytes as they were, a report of more than 2,045 nodes, and one that has more bytes than are given.
 pub fn write_report(report: Report, out: &mut [u8]) -> Result<usize, Refusal>
-    ensures { Judged (Breach report.entry (length out.old)) ReportLayer (λ n. Written (report_text report.entry) out.old n out.new) (out.new ≡ out.old) result }
+    ensures { Judged result record {
+      breaches = ReportBreach report.entry (length out.old);
+      layer = ReportLayer;
+      accepted = λ n. Written (report_text report.entry) out.old n out.new;
+      refused = out.new ≡ out.old;
+    } }
 {
     if text_length(report)? > out.len() {
         return Err(Layer::Report.refusal(Cause::ReportSize, 0));
@@ -32,9 +39,16 @@ pub fn write_report(report: Report, out: &mut [u8]) -> Result<usize, Refusal>
     Ok(write_text(report, out))
 }
 
-// The report's text in bytes of its own, just as many as it needs. So it is refused only for its number of nodes.
+/// The report's text in bytes of its own, just as many as it has.
+///
+/// Refuses with 22, in layer 7, at place 0, a report of more than 2,045 nodes. Want of memory is its only other error.
 pub fn report_text(heap: Global, report: Report) -> Result<Vec<u8>, Error>
-    ensures { JudgedInMemory (Breach report.entry (length (report_text report.entry))) ReportLayer (λ text. text.items ≡ report_text report.entry) (Unit {0}) result }
+    ensures { JudgedInMemory result record {
+      breaches = ReportBreach report.entry (length (report_text report.entry));
+      layer = ReportLayer;
+      accepted = λ text. text.items ≡ report_text report.entry;
+      refused = Unit {0};
+    } }
 {
     let length = text_length(report)?;
     let mut text = vec![in heap; 0; length]?;

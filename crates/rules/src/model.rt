@@ -5,12 +5,15 @@ ghost use Rattle.rules.specs.Limits.{LawfulRule, Limits};
 use crate::rule::Rule;
 use arrayvec::ArrayVec;
 
-// The most bits and the most rules of a model.
+/// A model has no more bits.
 pub const MOST_BITS: usize = 8;
 
+/// A model has no more rules.
 pub const MOST_RULES: usize = 16;
 
-// A model of 2 ^ bits states that is given by its rules.
+/// A model of 2^b states, b from 1 to 8, that is given by 0 to 16 rules (docs/FORMATS.md, "The rule list").
+///
+/// The label of a state is its number, as a signal word. Successors are computed from the rules whenever they are asked for.
 #[derive(Drop)]
 pub struct RuleModel {
     bits: usize,

@@ -3,15 +3,13 @@
 #![tactic(auto)]
 
 use image::slot::Slot;
-use image::stored::StoredModel;
+use image::stored::{LONGEST_IMAGE, StoredModel};
 use kripke::label::Label;
 use kripke::model::Model;
-use kripke::refusal::Error;
 use labels::coded::Coded;
 use labels::kind::Kind;
 use labels::reading::Reading;
 use labels::signal::SignalWord;
-use std::alloc::AllocError;
 use std::io;
 use std::io::Read;
 
@@ -34,7 +32,8 @@ fn print_state<M: Model>(rt: &(impl Print), model: &M, s: usize) -> io::Result<(
 fn print_model<M: Model>(rt: &(impl Print), kind: Kind, model: &M) -> io::Result<()> {
     let states = model.states();
     let initial = model.initial();
-    println!(rt; "{kind}, {states} states, initial state {initial}")?;
+    let noun = if states == 1 { "state" } else { "states" };
+    println!(rt; "{kind}, {states} {noun}, initial state {initial}")?;
     for s in 0..states {
         print_state(rt, model, s)?;
     }
@@ -43,16 +42,17 @@ fn print_model<M: Model>(rt: &(impl Print), kind: Kind, model: &M) -> io::Result
 
 fn show<L: Coded>(rt: &HostRuntime, image: &[u8]) -> io::Result<()> {
     let mut model = StoredModel::<L>::new(rt.alloc())?;
-    match model.load(rt.alloc(), image, Slot::First) {
+    match model.load(image, Slot::First) {
         Ok(()) => print_model(rt, L::kind(), &model),
-        Err(Error::Refused(refusal)) => println!(rt; "{refusal}"),
-        Err(Error::Memory) => Err(io::Error::from(AllocError)),
+        Err(refusal) => println!(rt; "{refusal}"),
     }
 }
 
 fn main(rt: HostRuntime) -> io::Result<()> {
     let mut image = Vec::new(rt.alloc());
-    rt.stdin().read_to_end(&mut image)?;
+    // Where there is one byte more, the image is refused whatever follows.
+    let most = LONGEST_IMAGE as u64 + 1;
+    rt.stdin().take(most).read_to_end(&mut image)?;
     // A match at each caller: no closure is generic in the label type, and a trait of what to do would be longer.
     match Kind::of_image(image.as_slice()) {
         Kind::SignalWords => show::<SignalWord>(&rt, image.as_slice()),

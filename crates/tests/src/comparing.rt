@@ -1,18 +1,16 @@
 // Tests of the comparison: stored models of both kinds, rule models, one of each, and models of 256 states.
 
+use crate::building::{DARK, ONE, chain, stored};
 use compare::comparison::Comparison;
 use compare::requests::{Answer, Request};
 use compare::verdict::{Outcome, Verdict};
 use evaluator::evaluate;
-use image::slot::Slot;
 use image::stored::StoredModel;
 use kripke::label::Label;
 use kripke::model::Model;
 use kripke::node::Node;
 use kripke::operator::Operator;
 use kripke::refusal::{Cause, Layer, Refusal};
-use labels::coded::Coded;
-use labels::kind::Kind;
 use labels::reading::Reading;
 use labels::signal::SignalWord;
 use rules::model::RuleModel;
@@ -20,41 +18,6 @@ use rules::rule::Rule;
 use std::alloc::Global;
 use std::process::Abort;
 use std::test::Fail;
-
-// An image: of each state its label and first link, and of each link its target and next link.
-// Other tests build what their cases need: one builder for all of them would be longer than each.
-fn image(
-    heap: Global,
-    kind: Kind,
-    states: &[([u8; 4], u16)],
-    links: &[(u16, u16)],
-) -> Result<Vec<u8>, Fail> {
-    let [n, n_high] = u16::try_from(states.len())?.to_le_bytes();
-    let [m, m_high] = u16::try_from(links.len())?.to_le_bytes();
-    let mut bytes = vec![in heap; u8::from(kind), 0, n, n_high, m, m_high, 0, 0]?;
-    for (label, first) in states {
-        bytes.extend_from_slice(label)?;
-        bytes.extend_from_slice(&first.to_le_bytes())?;
-        bytes.extend_from_slice(&[0, 0])?;
-    }
-    for (target, next) in links {
-        bytes.extend_from_slice(&target.to_le_bytes())?;
-        bytes.extend_from_slice(&next.to_le_bytes())?;
-    }
-    Ok(bytes)
-}
-
-// The model that an image of these states and links loads.
-fn stored<C: Coded + Drop>(
-    heap: Global,
-    states: &[([u8; 4], u16)],
-    links: &[(u16, u16)],
-) -> Result<StoredModel<C>, Fail> {
-    let bytes = image(heap, C::kind(), states, links)?;
-    let mut model = StoredModel::<C>::new(heap)?;
-    model.load(heap, bytes.as_slice(), Slot::First)?;
-    Ok(model)
-}
 
 // Two states that lead to each other, with these labels.
 fn readings(heap: Global, one: [u8; 4], two: [u8; 4]) -> Result<StoredModel<Reading>, Fail> {
@@ -74,7 +37,7 @@ fn closes<L: Label, M: Model<Label = L>, N: Model<Label = L>>(
     outcome: Outcome,
     rounds: usize,
 ) -> Result<Comparison, Fail> {
-    let mut comparison = Comparison::open(heap, first, second)?;
+    let mut comparison = Comparison::open(first, second);
     for k in 0..rounds {
         assert_eq!(rt;
             comparison.verdict(),
@@ -109,10 +72,6 @@ fn separates<L: Label, M: Model<Label = L>, N: Model<Label = L>>(
     assert!(rt; !evaluate(second, places.as_slice(), table.as_mut_slice())?.holds);
     Ok(())
 }
-
-const DARK: [u8; 4] = [0, 0, 0, 0];
-
-const ONE: [u8; 4] = [1, 0, 0, 0];
 
 const TWO: [u8; 4] = [2, 0, 0, 0];
 
@@ -210,15 +169,6 @@ fn rule_models(rt: HostRuntime) -> Result<(), Fail> {
     separates(&rt, heap, &c, &fresh, &ruled, 5)
 }
 
-// A chain of 256 states; the last one shows the label and stays.
-fn chain(heap: Global, last: [u8; 4]) -> Result<StoredModel<SignalWord>, Fail> {
-    let mut states: Vec<_> = (1..256).map(|s| (DARK, s)).collect(heap)?;
-    let mut links: Vec<_> = (1..256).map(|s| (s, 0)).collect(heap)?;
-    states.push((last, 256))?;
-    links.push((255, 0))?;
-    stored(heap, states.as_slice(), links.as_slice())
-}
-
 // They part at the last step, or are alike.
 #[test]
 fn chains(rt: HostRuntime) -> Result<(), Fail> {
@@ -252,29 +202,29 @@ fn requests(rt: HostRuntime) -> Result<(), Fail> {
         Request::Formula(13),
         Request::Class(1),
     ];
-    let mut c = Comparison::open(heap, &l, &s)?;
-    let answers = c.run(heap, &asked)?;
-    let table = c.table()?;
-    assert_eq!(rt; table.len(), 6);
-    let wanted = vec![in heap;
+    let mut answers = [Err(refusal(Cause::FewPlaces, 0)); 15];
+    let c = Comparison::open_and_run(&l, &s, &asked, &mut answers);
+    assert_eq!(rt; c.table()?.len(), 6);
+    let wanted = [
         Ok(Answer::Class(0)),
-        Err(refusal(Cause::StateNumber, 4).into()),
-        Err(refusal(Cause::OpenComparison, 0).into()),
-        Err(refusal(Cause::NotDifferent, 0).into()),
+        Err(refusal(Cause::StateNumber, 4)),
+        Err(refusal(Cause::OpenComparison, 0)),
+        Err(refusal(Cause::NotDifferent, 0)),
         Ok(Answer::Round(3)),
         Ok(Answer::Class(2)),
         Ok(Answer::Class(0)),
         Ok(Answer::Round(4)),
-        Err(refusal(Cause::ClosedComparison, 2).into()),
+        Err(refusal(Cause::ClosedComparison, 2)),
         Ok(Answer::Verdict(Verdict {
             rounds: 2,
             outcome: Outcome::Different,
         })),
-        Err(refusal(Cause::FewPlaces, 12).into()),
-        Ok(Answer::Formula(Vec::from_slice(heap, table)?)),
-        Ok(Answer::Formula(Vec::from_slice(heap, table)?)),
+        Err(refusal(Cause::FewPlaces, 12)),
+        Ok(Answer::Formula(6)),
+        Ok(Answer::Formula(6)),
         Ok(Answer::Class(1)),
-    ]?;
+        Err(refusal(Cause::FewPlaces, 0)),
+    ];
     assert_eq!(rt; answers, wanted);
     Ok(())
 }

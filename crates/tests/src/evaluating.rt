@@ -1,5 +1,6 @@
 // Tests of rule models, and of the evaluator at rule and stored models. What is refused must leave all as it was.
 
+use crate::building::image;
 use evaluator::{Evaluation, evaluate};
 use image::slot::Slot;
 use image::stored::StoredModel;
@@ -294,8 +295,64 @@ fn both_kinds(rt: HostRuntime) -> Result<(), Fail> {
         0, 0, 1, 0, 0, 0,
     ];
     let mut stored = StoredModel::<SignalWord>::new(heap)?;
-    match stored.load(heap, &image, Slot::First) {
+    match stored.load(&image, Slot::First) {
         Ok(()) => evaluated(&rt, heap, &stored, &nodes, &rows, root),
         Err(_) => Err(Fail::new("the image is refused")),
     }
+}
+
+const ALL: u64 = 0xFFFFFFFFFFFFFFFF;
+
+const EVEN: u64 = 0x5555555555555555;
+
+const ODD: u64 = 0xAAAAAAAAAAAAAAAA;
+
+// A chain of 135 states that show their numbers: its rows reach into the third word, and the words past them stay.
+#[test]
+fn third_word(rt: HostRuntime) -> Result<(), Fail> {
+    let heap = rt.alloc();
+    let states: Vec<_> = (0..135)
+        .map(|s: u8| ([s, 0, 0, 0], u16::from(s) + 1))
+        .collect(heap)?;
+    let links: Vec<_> = (1..=135)
+        .map(|target: u16| (target.min(134), 0))
+        .collect(heap)?;
+    let bytes = image(heap, 1, 127, states.as_slice(), links.as_slice())?;
+    let mut model = StoredModel::<SignalWord>::new(heap)?;
+    model.load(bytes.as_slice(), Slot::First)?;
+    let nodes = [
+        Node::new(Operator::Question, 0, 0),
+        Node::new(Operator::Question, 7, 0),
+        Node::new(Operator::Truth, 0, 0),
+        Node::new(Operator::Not, 0, 0),
+        Node::new(Operator::Not, 1, 0),
+        Node::new(Operator::AX, 0, 0),
+        Node::new(Operator::EF, 1, 0),
+        Node::new(Operator::AG, 1, 0),
+        Node::new(Operator::AG, 3, 0),
+        Node::new(Operator::EU, 4, 1),
+        Node::new(Operator::EX, 1, 0),
+    ];
+    let rows = [
+        [ODD, ODD, 0b0101010, 0],
+        [0, 0, 0b1111111, 0],
+        [ALL, ALL, 0b1111111, 0],
+        [EVEN, EVEN, 0b1010101, 0],
+        [ALL, ALL, 0, 0],
+        [EVEN, EVEN, 0b0010101, 0],
+        [ALL, ALL, 0b1111111, 0],
+        [0, 0, 0b1111111, 0],
+        [0, 0, 0b1000000, 0],
+        [ALL, ALL, 0b1111111, 0],
+        [0, 0x8000000000000000, 0b1111111, 0],
+        [9, 9, 9, 9],
+    ];
+    let root = Evaluation {
+        holds: true,
+        count: 8,
+    };
+    let mut words = [9; 48];
+    assert_eq!(rt; evaluate(&model, &nodes, &mut words), Ok(root));
+    assert_eq!(rt; words.as_chunks().0, rows.as_slice());
+    Ok(())
 }

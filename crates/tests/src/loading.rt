@@ -4,7 +4,7 @@ use image::slot::Slot;
 use image::stored::StoredModel;
 use kripke::label::Label;
 use kripke::model::Model;
-use kripke::refusal::{Cause, Error, Layer};
+use kripke::refusal::{Cause, Layer};
 use labels::reading::Reading;
 use labels::signal::SignalWord;
 use std::alloc::{AllocError, Global};
@@ -51,7 +51,7 @@ fn held(heap: Global) -> Result<StoredModel<SignalWord>, Fail> {
         0, 0,
     ];
     let mut model = StoredModel::new(heap)?;
-    match model.load(heap, &image, Slot::First) {
+    match model.load(&image, Slot::First) {
         Ok(()) => Ok(model),
         Err(_) => Err(Fail::new("the holder's image is refused")),
     }
@@ -78,8 +78,8 @@ fn refused(
 ) -> Result<(), Fail> {
     let mut model = held(heap)?;
     let refusal = Layer::SecondImage.refusal(cause, place);
-    let loaded = model.load(heap, image.as_slice(), Slot::Second);
-    assert_eq!(rt; loaded, Err(Error::Refused(refusal)));
+    let loaded = model.load(image.as_slice(), Slot::Second);
+    assert_eq!(rt; loaded, Err(refusal));
     still_held(rt, &model);
     Ok(())
 }
@@ -93,7 +93,7 @@ fn taken(
     degree: usize,
 ) -> Result<(), Fail> {
     let mut model = held(heap)?;
-    assert_eq!(rt; model.load(heap, image.as_slice(), Slot::First), Ok(()));
+    assert_eq!(rt; model.load(image.as_slice(), Slot::First), Ok(()));
     assert_eq!(rt; model.states(), states);
     assert_eq!(rt; model.degree(0), degree);
     Ok(())
@@ -188,10 +188,10 @@ fn readings(rt: HostRuntime) -> Result<(), Fail> {
         11,
         60,
     );
-    assert!(rt; model.load(heap, rising.as_slice(), Slot::First).is_ok());
+    assert!(rt; model.load(rising.as_slice(), Slot::First).is_ok());
     assert!(rt; !model.label(0).answer(0));
-    match model.load(heap, patched(rising, 10, 60).as_slice(), Slot::First) {
-        Err(Error::Refused(refusal)) => assert_eq!(rt; refusal.cause, Cause::StateRecord),
+    match model.load(patched(rising, 10, 60).as_slice(), Slot::First) {
+        Err(refusal) => assert_eq!(rt; refusal.cause, Cause::StateRecord),
         _ => return Err(Fail::new("the limits do not rise")),
     }
     assert!(rt; !model.label(0).answer(0));

@@ -63,8 +63,8 @@ fn chains(first: [u8; 4], second: [u8; 4]) -> [u8; 2 * CHAIN] {
     input
 }
 
-// Each input is told as the text beside it.
-fn told(rt: &impl Abort, heap: Global, cases: &[(&[u8], &str)]) -> Result<(), Fail> {
+// The job answers each input by the text beside it.
+fn answers(rt: &impl Abort, heap: Global, cases: &[(&[u8], &str)]) -> Result<(), Fail> {
     for (input, expected) in cases {
         let text = compare_images(heap, input)?;
         assert!(rt; text.as_slice() == expected.as_bytes());
@@ -85,7 +85,7 @@ fn reports(rt: HostRuntime) -> Result<(), Fail> {
         (&pair(dark, lit), "differ 0 2\n0 1 0 0\n1 2 0 0\n"),
         (&pair(alarm, fault), "differ 0 2\n0 1 0 0\n1 2 0 0\n"),
     ];
-    told(&rt, rt.alloc(), &cases)
+    answers(&rt, rt.alloc(), &cases)
 }
 
 #[test]
@@ -105,7 +105,7 @@ fn lengths(rt: HostRuntime) -> Result<(), Fail> {
         (&input[..39], "refused 3 2 20\n"),
         (&longer, "refused 3 2 20\n"),
     ];
-    told(&rt, rt.alloc(), &cases)
+    answers(&rt, rt.alloc(), &cases)
 }
 
 #[test]
@@ -120,7 +120,7 @@ fn kinds_and_labels(rt: HostRuntime) -> Result<(), Fail> {
         (&pair(unknown, unknown), "refused 2 1 0\n"),
         (&pair(fault, no_reading), "refused 4 2 8\n"),
     ];
-    told(&rt, rt.alloc(), &cases)
+    answers(&rt, rt.alloc(), &cases)
 }
 // The most rounds that two models of 256 states need: they part at the last of 255 steps, or agree there.
 #[test]

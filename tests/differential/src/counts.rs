@@ -12,6 +12,8 @@ pub struct Counts {
     refused_whole: BTreeMap<u8, usize>,
     pub bare: usize,
     refused: BTreeMap<u8, usize>,
+    /// Of the lists of requests those that are so.
+    lists: BTreeMap<&'static str, usize>,
     alike: usize,
     different: usize,
     most_rounds: usize,
@@ -28,7 +30,10 @@ impl Counts {
         for &number in &met.refused {
             *self.refused.entry(number).or_default() += 1;
         }
-        for &(verdict, rounds) in &met.verdicts {
+        for &(name, so) in &met.lists {
+            *self.lists.entry(name).or_default() += usize::from(so);
+        }
+        if let Some((verdict, rounds)) = met.verdict {
             match verdict {
                 Verdict::Alike => self.alike += 1,
                 Verdict::Different => self.different += 1,
@@ -74,6 +79,11 @@ impl fmt::Display for Counts {
             )?;
         }
         writeln!(out)?;
+        if !self.lists.is_empty() {
+            let told = |(name, count)| format!("{name} {count}");
+            let lists: Vec<String> = self.lists.iter().map(told).collect();
+            writeln!(out, "lists of requests: {}", lists.join(", "))?;
+        }
         writeln!(
             out,
             "verdicts: alike {}, different {}, most rounds {}",
@@ -95,7 +105,7 @@ mod tests {
     use crate::judge::judge;
 
     #[test]
-    fn generated_cases_meet_each_refusal() {
+    fn generated_cases_meet_each_refusal_and_list() {
         let mut counts = Counts::default();
         for number in 0..4000 {
             let case = Case::new(1, number);
@@ -103,5 +113,6 @@ mod tests {
         }
         println!("{counts}");
         assert!((1..=22).all(|number| counts.refused.contains_key(&number)));
+        assert!(counts.lists.values().all(|&count| count > 20));
     }
 }

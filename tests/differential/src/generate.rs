@@ -4,12 +4,14 @@ mod comparisons;
 pub mod every;
 mod graphs;
 mod images;
+mod requests;
 mod rulelists;
 mod tables;
 mod texts;
 
-use crate::protocol::{put_model, put_nodes, put_two, Job, Payload};
+use crate::protocol::{put_model, put_nodes, put_requests, put_two, Job, Payload};
 use crate::rng::Rng;
+use comparisons::Size;
 use tables::Asked;
 
 /// A job of a random kind.
@@ -130,8 +132,24 @@ fn printing(rng: &mut Rng) -> Job {
 fn comparison(rng: &mut Rng) -> Job {
     let mut payload = Vec::new();
     comparisons::put_models(rng, &mut payload);
-    comparisons::put_requests_for(rng, &mut payload);
+    let requests = requests::list(rng, Size::of(&payload));
+    put_two(&mut payload, answer_places(rng, requests.len()));
+    put_requests(&mut payload, &requests);
     Job { tag: b'C', payload }
+}
+
+/// The number of answer places that so many requests are given.
+fn answer_places(rng: &mut Rng, requests: usize) -> usize {
+    let places = match rng.below(20) {
+        0 => 0,
+        1 => requests.saturating_sub(1),
+        2 | 3 => rng.below(requests + 1),
+        4 => requests + 1,
+        5 | 6 => requests + rng.between(1, 300),
+        7 if rng.chance(10) => 65535,
+        _ => requests,
+    };
+    places.min(65535)
 }
 
 fn writing(rng: &mut Rng) -> Job {

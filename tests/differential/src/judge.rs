@@ -2,7 +2,8 @@
 
 use crate::evaluate::evaluate;
 use crate::formula;
-use crate::law::{self, Answer};
+use crate::law::{self, Answer, Request};
+use crate::lists;
 use crate::model::Model;
 use crate::pair;
 use crate::print::print;
@@ -17,7 +18,9 @@ use crate::text::read;
 #[derive(Default)]
 pub struct Met {
     pub refused: Vec<u8>,
-    pub verdicts: Vec<(Verdict, usize)>,
+    /// Of a list of requests, what is counted and whether it is so.
+    pub lists: Vec<(&'static str, bool)>,
+    pub verdict: Option<(Verdict, usize)>,
     pub formulas: usize,
     pub largest_formula: usize,
 }
@@ -29,7 +32,7 @@ impl Met {
     }
 
     fn verdict(&mut self, verdict: Verdict, rounds: usize) {
-        self.verdicts.push((verdict, rounds));
+        self.verdict = Some((verdict, rounds));
     }
 
     fn formula(&mut self, nodes: usize) {
@@ -189,31 +192,40 @@ fn parse_node(line: &str) -> Option<Node> {
     (node.to_string() == line).then_some(node)
 }
 
+/// Reads "formula count".
+fn parse_count(line: &str) -> Option<usize> {
+    let count = line.strip_prefix("formula ")?.parse::<usize>().ok()?;
+    (format!("formula {count}") == line).then_some(count)
+}
+
 fn comparison(payload: Payload, given: &[&str], mut met: Met) -> Judged {
-    let (first, second, requests) = match parse_comparison(payload) {
+    let asked = match parse_comparison(payload) {
         None => return judge_exact(bad(), given, met),
         Some(Err(refusal)) => {
             let own = vec![format!("model {}", met.refusal(refusal))];
             return judge_exact(own, given, met);
         }
-        Some(Ok(parsed)) => parsed,
+        Some(Ok(asked)) => asked,
     };
+    let mut places: Vec<Answer> = (0..asked.places).map(untouched).collect();
+    law::run(&asked.first, &asked.second, &asked.requests, &mut places);
+    met.lists = lists::likenesses(&asked.requests, &places).into();
     let mut walk = Walk {
-        first: &first,
-        second: &second,
+        first: &asked.first,
+        second: &asked.second,
         given,
         at: 0,
         formula: None,
     };
     let mut own = Vec::new();
     let mut objection = None;
-    for answer in law::run(&first, &second, &requests) {
+    for answer in places {
         let (line, wrong) = walk.answer(answer, &mut met);
         objection = objection.or(wrong.map(|wrong| format!("answer {}: {wrong}", own.len())));
         own.push(line);
     }
     if objection.is_none() && walk.at < given.len() {
-        objection = Some("there are more lines than answers".into());
+        objection = Some("there are more lines than the answer places have".into());
     }
     Judged {
         own,
@@ -222,23 +234,40 @@ fn comparison(payload: Payload, given: &[&str], mut met: Met) -> Judged {
     }
 }
 
-type Parsed = (Model, Model, Vec<law::Request>);
+/// What stands in an answer place before a run.
+fn untouched(place: usize) -> Answer {
+    Answer::Class(65535 - place)
+}
 
-/// The models and requests of a comparison, or the refusal of a model; `None`
-/// also for two models of different label kinds.
-fn parse_comparison(mut payload: Payload) -> Option<Result<Parsed, Refusal>> {
+/// What the payload of a comparison says.
+struct Comparison {
+    first: Model,
+    second: Model,
+    places: usize,
+    requests: Vec<Request>,
+}
+
+/// A comparison, or the refusal of a model; `None` also for two models of
+/// different label kinds.
+fn parse_comparison(mut payload: Payload) -> Option<Result<Comparison, Refusal>> {
     let first = payload.model()?;
     let second = payload.model()?;
+    let places = payload.two()?;
     let requests = payload.requests()?;
     let load = || Ok((first.load(false)?, second.load(true)?));
     match load() {
         Err(refusal) => Some(Err(refusal)),
-        Ok((first, second)) if first.kind == second.kind => Some(Ok((first, second, requests))),
+        Ok((first, second)) if first.kind == second.kind => Some(Ok(Comparison {
+            first,
+            second,
+            places,
+            requests,
+        })),
         Ok(_) => None,
     }
 }
 
-/// Goes over the lines of an answer to a list of requests.
+/// Goes over the lines of the answer places.
 struct Walk<'a> {
     first: &'a Model,
     second: &'a Model,
@@ -281,10 +310,7 @@ impl Walk<'_> {
 
     fn formula(&mut self, rounds: usize, met: &mut Met) -> Option<String> {
         let head = self.line();
-        let Some(count) = head
-            .strip_prefix("formula ")
-            .and_then(|n| n.parse::<usize>().ok())
-        else {
+        let Some(count) = parse_count(head) else {
             return Some(format!("`{head}` given, a formula is right"));
         };
         let lines = self.given.get(self.at..).unwrap_or(&[]);
@@ -355,6 +381,8 @@ fn parse_report(given: &[&str], rounds: usize) -> Option<Vec<Node>> {
 #[cfg(test)]
 mod tests {
     use super::*;
+    use crate::driver::Case;
+    use crate::fake;
 
     fn demo(name: &str) -> Vec<u8> {
         std::fs::read(format!("../../demo/{name}.img")).unwrap()
@@ -404,5 +432,118 @@ mod tests {
             payload: [demo("school-tested"), demo("school-loaded")].concat(),
         };
         assert!(judge(&job, &["alike 5"]).own[0].starts_with("differ 5 "));
+    }
+    /// One state of a word below 256 that leads to itself, as a payload has it.
+    fn one_state(word: u8) -> Vec<u8> {
+        let mut model = vec![1, 20, 0, 0, 0];
+        model.extend([1, 0, 1, 0, 1, 0, 0, 0]);
+        model.extend([word, 0, 0, 0, 1, 0, 0, 0, 0, 0, 0, 0]);
+        model
+    }
+
+    fn requests_job(words: [u8; 2], places: [u8; 2], requests: &[[u8; 3]]) -> Job {
+        let models = words.map(one_state).concat();
+        Job {
+            tag: b'C',
+            payload: [&models[..], &places, &requests.concat()].concat(),
+        }
+    }
+
+    fn objects(job: &Job, given: &[&str]) -> bool {
+        judge(job, given).objection.is_some()
+    }
+
+    const ALIKE: [[u8; 3]; 7] = [
+        [2, 0, 0],
+        [3, 5, 0],
+        [0, 0, 0],
+        [0, 0, 0],
+        [1, 1, 0],
+        [1, 2, 0],
+        [2, 0, 0],
+    ];
+
+    const ALIKE_TOLD: [&str; 9] = [
+        "refused 19 6 0",
+        "refused 20 6 0",
+        "round 1",
+        "refused 17 6 1",
+        "class 0",
+        "refused 18 6 2",
+        "verdict alike 1",
+        "class 65528",
+        "class 65527",
+    ];
+
+    #[test]
+    fn a_line_an_answer_place() {
+        for places in 0..=9 {
+            let job = requests_job([0, 0], [places, 0], &ALIKE);
+            for lines in 0..=9 {
+                assert_eq!(
+                    objects(&job, &ALIKE_TOLD[..lines]),
+                    lines != usize::from(places)
+                );
+            }
+        }
+        let mut other = ALIKE_TOLD;
+        other[8] = "class 65528";
+        assert!(objects(&requests_job([0, 0], [9, 0], &ALIKE), &other));
+    }
+
+    #[test]
+    fn as_many_places_as_there_can_be() {
+        let own = judge(&requests_job([0, 0], [255, 255], &ALIKE), &[]).own;
+        assert_eq!(own.len(), 65535);
+        assert_eq!(own[..9], ALIKE_TOLD);
+        assert_eq!(own[65534], "class 1");
+    }
+
+    #[test]
+    fn the_formula_is_the_same_again() {
+        let requests = [[3, 5, 0], [0, 0, 0], [3, 4, 0], [3, 255, 255], [3, 5, 0]];
+        let job = requests_job([1, 0], [4, 0], &requests);
+        let told = ["formula 1", "1 0 0"];
+        let between = ["refused 17 6 0", "refused 21 6 4"];
+        let given = |last: &[&str]| objects(&job, &[&told[..], &between, last].concat());
+        assert!(!given(&told));
+        assert!(given(&["formula 1", "1 1 0"]));
+        // It separates as well.
+        assert!(given(&["formula 3", "1 0 0", "2 0 0", "2 1 0"]));
+        assert!(given(&["formula 01", "1 0 0"]));
+        assert!(given(&["formula 2", "1 0 0"]));
+        assert!(given(&["formula 1"]));
+        // The fifth request is past the places.
+        assert!(given(&[told, told].concat()));
+    }
+
+    #[test]
+    fn a_comparison_that_is_bad_or_has_a_refused_model() {
+        let told = |payload: Vec<u8>| judge(&Job { tag: b'C', payload }, &[]).own;
+        let models = [one_state(0), one_state(1)].concat();
+        assert_eq!(told(models.clone()), ["bad"]);
+        assert_eq!(told([&models[..], &[0]].concat()), ["bad"]);
+        assert_eq!(told([&models[..], &[0, 0, 0, 0]].concat()), ["bad"]);
+        assert!(told([&models[..], &[0, 0]].concat()).is_empty());
+        let mut refused = one_state(0);
+        refused[6] = 1;
+        let second = [one_state(0), refused, vec![3, 0, 0, 0, 0]].concat();
+        assert_eq!(told(second), ["model refused 2 2 1"]);
+    }
+
+    #[test]
+    fn right_answers_are_accepted_and_lines_more_or_less_are_not() {
+        for number in 0..4000 {
+            let job = Case::new(2, number).job;
+            let answer = fake::answer(&job);
+            let mut given: Vec<&str> = answer.iter().map(String::as_str).collect();
+            assert_eq!(judge(&job, &given).objection, None, "case {number}");
+            given.push("class 0");
+            assert!(objects(&job, &given), "case {number}");
+            given.pop();
+            if given.pop().is_some() {
+                assert!(objects(&job, &given), "case {number}");
+            }
+        }
     }
 }

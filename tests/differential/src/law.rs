@@ -53,10 +53,75 @@ fn answer(rounds: &mut Rounds, request: Request) -> Answer {
     }
 }
 
-pub fn run(first: &Model, second: &Model, requests: &[Request]) -> Vec<Answer> {
+/// Answers a list of requests into places, from the first on, one a place.
+/// Places past the requests stay as they were, and requests past the places
+/// are not looked at.
+pub fn run(first: &Model, second: &Model, requests: &[Request], places: &mut [Answer]) {
     let mut rounds = Rounds::open(first, second);
-    requests
-        .iter()
-        .map(|&request| answer(&mut rounds, request))
-        .collect()
+    for (&request, place) in requests.iter().zip(places) {
+        *place = answer(&mut rounds, request);
+    }
+}
+
+#[cfg(test)]
+mod tests {
+    use super::*;
+    use crate::model::{Kind, State};
+
+    /// One state with one answer, its own successor.
+    fn model(yes: bool) -> Model {
+        Model {
+            kind: Kind::Words,
+            initial: 0,
+            states: vec![State {
+                answers: vec![yes],
+                successors: vec![0],
+            }],
+        }
+    }
+
+    fn told(requests: &[Request], places: usize) -> Vec<Answer> {
+        let mut answers = vec![Answer::Class(999); places];
+        run(&model(true), &model(true), requests, &mut answers);
+        answers
+    }
+
+    #[test]
+    fn as_many_requests_as_there_are_places() {
+        let requests = [Request::Verdict, Request::Round, Request::Verdict];
+        let all = [
+            refused(19, 0),
+            Answer::Round(1),
+            Answer::Verdict(Verdict::Alike, 1),
+        ];
+        for places in 0..=3 {
+            assert_eq!(told(&requests, places), all[..places]);
+        }
+        let rest = [Answer::Class(999); 2];
+        assert_eq!(told(&requests, 5), [&all[..], &rest].concat());
+        assert_eq!(told(&[], 2), rest);
+    }
+
+    #[test]
+    fn a_comparison_that_is_closed_at_the_opening() {
+        let requests = [
+            Request::Verdict,
+            Request::Round,
+            Request::Formula(5),
+            Request::Formula(4),
+            Request::Class(2),
+            Request::Formula(5),
+        ];
+        let mut answers = vec![Answer::Class(999); requests.len()];
+        run(&model(true), &model(false), &requests, &mut answers);
+        let right = [
+            Answer::Verdict(Verdict::Different, 0),
+            refused(17, 0),
+            Answer::Formula(0),
+            refused(21, 4),
+            refused(18, 2),
+            Answer::Formula(0),
+        ];
+        assert_eq!(answers, right);
+    }
 }

@@ -8,11 +8,14 @@
 mod counts;
 mod driver;
 mod evaluate;
+#[cfg(test)]
+mod fake;
 mod formula;
 mod generate;
 mod image;
 mod judge;
 mod law;
+mod lists;
 mod model;
 mod pair;
 mod print;

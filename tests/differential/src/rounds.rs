@@ -32,7 +32,7 @@ impl Both {
 }
 
 /// For each signature the least place that has it.
-fn least_with_same<S: Ord>(signatures: Vec<S>) -> Vec<usize> {
+pub fn least_with_same<S: Ord>(signatures: Vec<S>) -> Vec<usize> {
     let mut least = BTreeMap::new();
     let mut classes = Vec::new();
     for (place, signature) in signatures.into_iter().enumerate() {

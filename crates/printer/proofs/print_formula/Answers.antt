@@ -10,7 +10,8 @@ use Rattle.printer.proofs.print_formula.Goals as goal
 pub returns-in-Ok : goal.returns-in-Ok
 returns-in-Ok c =
     let some = eqb-false (length c.args.nodes.now) 0 (sym c.if-is_empty.ensures) in
-    printed c.args.questions c.args.nodes.now c.new-writer.result (string_bytes c.into_text.result) (omega arith) (omega arith) (omega (arith, some)) (search c.in-None.ensures) c.new-writer.ensures
+    printed c.args.questions c.args.nodes.now c.new-writer.result (string_bytes c.into_text.result)
+    (record { some = omega arith; few = omega arith; rooted = omega (arith, some); ordered = search c.in-None.ensures }) c.new-writer.ensures
     (rw c.into_text.ensures (search (c.in-Ok.ensures, c.in-None.ensures)))
 
 pub returns-in-Err-Limit : goal.returns-in-Err-Limit

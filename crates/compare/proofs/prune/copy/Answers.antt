@@ -1,6 +1,5 @@
-use Rattle.std.proofs.Common.{◌≡◌, ℕ, ◌+◌, ◌<◌, List, length, get_or, vec_items, sym, ap, ◌∙◌, subst, arith, length-set, rules}
-use Rattle.std.proofs.lemmas.List.{get_or_read}
-use Rattle.kripke.specs.Nodes.{blank}
+use Rattle.std.proofs.Common.{◌≡◌, ℕ, ◌+◌, ◌<◌, List, length, get_or, sym, ap, ◌∙◌, subst, arith, length-set, rules}
+use Rattle.kripke.specs.Nodes.{blank_node}
 use Rattle.kripke.specs.declared.node.Node.{Node}
 use Rattle.compare.specs.Pruned.{rename}
 use Rattle.compare.proofs.Renames.{nodes_fit}
@@ -11,27 +10,27 @@ use Rattle.compare.proofs.prune.copy.Goals.{then-reached-i, else-reached-i}
 pub loop-i-preserved : goal.loop-i-preserved
 loop-i-preserved c =
     let p = c.args.parts.now in
-    let ns : List Node = vec_items p.nodes.list in
+    let ns : List Node = p.nodes.list.items in
     let ks = c.args.reached.now in
     let i : ℕ = c.loop-i.i in
     elim c.if-reached-i.branch [
       | then-reached-i w ↦
-          (let m : w.len-m.result ≡ length (vec_items c.loop-i.out.list) = search rules in
+          (let m : w.len-m.result ≡ length c.loop-i.out.list.items = search rules in
           let l : i < length ns = omega arith in
-          let r : w.renamed.result ≡ rename c.loop-i.to (get_or ns i blank) =
-          w.renamed.ensures ∙ ap (λ (n : Node). rename c.loop-i.to n) (get_or_read ns i w.index.result.now l w.index.ensures blank) in
-          let ms : vec_items c.if-reached-i.out.list ≡ vec_items w.push_reserved.new.self = ap (λ o. vec_items o.list) w.out-is in (
+          let r : w.renamed.result ≡ rename c.loop-i.to (get_or ns i blank_node) =
+          w.renamed.ensures ∙ ap (λ (n : Node). rename c.loop-i.to n) (ap (λ (xs : List Node). get_or xs i blank_node) w.deref.ensures.0) in
+          let ms : c.if-reached-i.out.list.items ≡ w.push.new.self.items = ap (λ o. o.list.items) w.out-is in (
             ap length w.to-is ∙ length-set c.loop-i.to i w.len-m.result ∙ c.loop-i.invariant.0,
-            subst (λ (z : List ℕ). Copied p.questions ns ks (i + 1) z (vec_items c.if-reached-i.out.list)) (sym w.to-is)
-                (copied_push p.questions ns ks i c.loop-i.to w.len-m.result (vec_items c.loop-i.out.list) (vec_items c.if-reached-i.out.list) w.renamed.result
+            subst (λ (z : List ℕ). Copied p.questions ns ks (i + 1) z c.if-reached-i.out.list.items) (sym w.to-is)
+                (copied_push p.questions ns ks i c.loop-i.to w.len-m.result c.loop-i.out.list.items c.if-reached-i.out.list.items w.renamed.result
                 p.orderly l (omega (arith, l, nodes_fit p, c.loop-i.invariant.0)) (c.requires.marked.closed i (omega arith) w.if-reached-i.true) w.if-reached-i.true r m
-                (ms ∙ w.push_reserved.ensures.items) c.loop-i.invariant.1),
+                (ms ∙ w.push.ensures.items) c.loop-i.invariant.1),
           ))
       | else-reached-i w ↦ (
         ap length w.to-is ∙ c.loop-i.invariant.0,
-        subst (λ (z : List ℕ). Copied p.questions ns ks (i + 1) z (vec_items c.if-reached-i.out.list)) (sym w.to-is)
-            (subst (λ (z : List Node). Copied p.questions ns ks (i + 1) c.loop-i.to z) (sym (ap (λ o. vec_items o.list) w.out-is))
-            (copied_skip p.questions ns ks i c.loop-i.to (vec_items c.loop-i.out.list) w.if-reached-i.false c.loop-i.invariant.1)),
+        subst (λ (z : List ℕ). Copied p.questions ns ks (i + 1) z c.if-reached-i.out.list.items) (sym w.to-is)
+            (subst (λ (z : List Node). Copied p.questions ns ks (i + 1) c.loop-i.to z) (sym (ap (λ o. o.list.items) w.out-is))
+            (copied_skip p.questions ns ks i c.loop-i.to c.loop-i.out.list.items w.if-reached-i.false c.loop-i.invariant.1)),
       )
     ]
 
@@ -39,5 +38,5 @@ pub returns : goal.returns
 returns c =
     let p = c.args.parts.now in
     let e : c.loop-i.i ≡ c.args.root + 1 = omega arith in
-    pruned p.questions (vec_items p.nodes.list) c.args.root c.args.reached.now c.loop-i.to (vec_items c.loop-i.out.list) p.orderly c.requires.inside c.requires.marked
-    (subst (λ (z : ℕ). Copied p.questions (vec_items p.nodes.list) c.args.reached.now z c.loop-i.to (vec_items c.loop-i.out.list)) e c.loop-i.invariant.1)
+    pruned p.questions p.nodes.list.items c.args.root c.args.reached.now c.loop-i.to c.loop-i.out.list.items p.orderly c.requires.inside c.requires.marked
+    (subst (λ (z : ℕ). Copied p.questions p.nodes.list.items c.args.reached.now z c.loop-i.to c.loop-i.out.list.items) e c.loop-i.invariant.1)

@@ -11,7 +11,7 @@ moved P {p} {q} {a} {b} {c} {d} e f g x = subst (λ (n : ℕ). P n c d) e (subst
 
 pub report-requires : goal.report-requires
 report-requires g c =
-    let o = c.in_ok-comparison.ensures in
+    let o = c.open-comparison.ensures in
     let s = c.close.ensures.same in
     let q = sym (s.questions_is ∙ o.questions_is) in
     let a = sym (s.first_is ∙ o.first_is) in
@@ -24,7 +24,7 @@ report-requires g c =
 
 pub returns : goal.returns
 returns g c =
-    let o = c.in_ok-comparison.ensures in
+    let o = c.open-comparison.ensures in
     let s = c.close.ensures.same in
     let report = c.in_ok-report.field-0 in
     reported _ _ _ report

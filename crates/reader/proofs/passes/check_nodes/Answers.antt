@@ -5,7 +5,7 @@ use Rattle.kripke.specs.declared.refusal.Refusal.{Refusal}
 use Rattle.kripke.specs.declared.refusal.Cause.TheVariants as cause
 use Rattle.kripke.specs.declared.refusal.Layer.TheVariants as layer
 use Rattle.reader.specs.Breaches.{Readable, Refuses}
-use Rattle.reader.proofs.Verdicts.{told}
+use Rattle.reader.proofs.Verdicts.{first_breach}
 use Rattle.reader.proofs.Judgements.{many_told, refuses}
 use Rattle.reader.proofs.passes.check_nodes.Goals as goal
 
@@ -14,7 +14,7 @@ returns-in_err-count c =
     let p = err_from_is_err_and c.from_residual.result c.from_residual.ensures.1 in
     subst (λ (r : Result (Unit {0}) Refusal). MatchResult r (λ _. (f : Formula) × Readable c.args.text.now c.args.questions c.args.room f) (λ e. Refuses c.args.text.now c.args.questions c.args.room e)) (sym p.1)
     (subst (Refuses c.args.text.now c.args.questions c.args.room) (sym p.2)
-    (refuses c.args.text.now c.args.questions c.args.room _ (told c.args.text.now c.args.questions c.args.room c.requires _ c.in_err-count.ensures)))
+    (refuses c.args.text.now c.args.questions c.args.room _ (first_breach c.args.text.now c.args.questions c.args.room c.requires _ c.in_err-count.ensures)))
 
 pub returns-then-count-room : goal.returns-then-count-room
 returns-then-count-room c =

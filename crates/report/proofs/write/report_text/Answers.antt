@@ -19,6 +19,13 @@ returns-in_err-length c =
     let (many, is) = c.in_err-length.ensures in
     rw (p.1, p.2) (refused _ _ _ is (inl many), tt)
 
+-- Want of memory is met only by a report that breaks no rule.
+pub returns-in_err-text : goal.returns-in_err-text
+returns-in_err-text c =
+    let p = err_from_is_err_and c.from_residual-in_err-text.result c.from_residual-in_err-text.ensures.1 in
+    let (few, long) = c.in_ok-length.ensures in
+    rw (p.1, p.2) (accepted _ _ few (omega arith), tt)
+
 pub returns : goal.returns
 returns c =
     let (few, long) = c.in_ok-length.ensures in

@@ -11,10 +11,10 @@ use Rattle.compare.proofs.Rulings.{Fresh, open_moves, fresh_more, open_soon}
 use Rattle.compare.proofs.comparison.Comparison.advance.Goals as goal
 
 -- A round of an open refinement is a round more.
-went : (r s : Refinement) (n : ℕ) → Advanced r s n → (ClosedAfter (first_of r.pair) (second_of r.pair) r.rounds → ⊥) → (s.pair ≡ r.pair) × (s.rounds ≡ suc r.rounds)
+went : (r s : Refinement) (n : ℕ) → Advanced r s n → (¬ ClosedAfter (first_of r.pair) (second_of r.pair) r.rounds) → (s.pair ≡ r.pair) × (s.rounds ≡ suc r.rounds)
 went r s n d e = d.goes_on (r.last ∙ open_moves (first_of r.pair) (second_of r.pair) r.rounds e)
 
-fresh : (r s : Refinement) → (s.pair ≡ r.pair) × (s.rounds ≡ suc r.rounds) → (ClosedAfter (first_of r.pair) (second_of r.pair) r.rounds → ⊥)
+fresh : (r s : Refinement) → (s.pair ≡ r.pair) × (s.rounds ≡ suc r.rounds) → (¬ ClosedAfter (first_of r.pair) (second_of r.pair) r.rounds)
     → Fresh (first_of r.pair) (second_of r.pair) r.rounds → Fresh (first_of s.pair) (second_of s.pair) s.rounds
 fresh r s w e h =
     subst (λ (p : Pair). Fresh (first_of p) (second_of p) s.rounds) (sym w.0)

@@ -1,4 +1,5 @@
 use Rattle.std.proofs.Common.{sym}
+use Rattle.image.specs.Image.{most_successors}
 use Rattle.image.proofs.Runs.{longer}
 use Rattle.image.proofs.chain.Linked.chain_is_long.Goals as goal
 
@@ -6,4 +7,4 @@ pub returns : goal.returns
 returns c =
     let chain = c.chain.ensures in
     rw (c.is_some.ensures, sym chain.first, sym chain.linked)
-    (longer c.chain.result c.nth.new.self 16 c.nth.result c.nth.ensures.ran)
+    (longer c.chain.result c.nth.new.self most_successors c.nth.result c.nth.ensures.ran)

@@ -6,6 +6,6 @@ use Rattle.image.proofs.records.Records.first_bad_state.Goals as goal
 pub returns : goal.returns
 returns g c =
     let Good = GoodState g.L.Coded.coding c.args.self.now.image.now in
-    first_from_Range _ _ _ _ (λ s. Good s → ⊥) Good c.find.ensures.ran
+    first_from_Range _ _ _ _ (λ s. ¬ Good s) Good c.find.ensures.ran
     (λ s q k. Prim.search (rules, tests))
     (λ s q k. (Prim.search rules, Prim.search (rules, tests)))

@@ -11,6 +11,6 @@ returns g c =
     let ys = g.Self.Label.answers c.args.other.now in
     let law = g.met.Self.Label.answered in
     telling_found xs ys c.questions.result (law _ ∙ sym c.questions.ensures) (law _ ∙ sym c.questions.ensures) c.find.result
-    (first_from_Range _ _ _ _ (λ i. Agree xs ys i → ⊥) (Agree xs ys) c.find.ensures.ran
+    (first_from_Range _ _ _ _ (λ i. ¬ Agree xs ys i) (Agree xs ys) c.find.ensures.ran
     (λ i q k. Prim.search (rules, tests))
     (λ i q k. (Prim.search rules, Prim.search (rules, tests))))

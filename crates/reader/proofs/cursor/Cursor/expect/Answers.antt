@@ -6,5 +6,5 @@ use Rattle.reader.proofs.cursor.Cursor.expect.Goals as goal
 
 pub returns-else-eq : goal.returns-else-eq
 returns-else-eq c = λ n.
-    let z = c.token-token.ensures in
-    told_at _ n _ _ _ _ z.here c.refusal.ensures (sign_refused _ c.args.sign (λ e. let same : c.token-token.result.0 ≡ Sign c.args.sign = sym z.is ∙ e in search rules) n)
+    let z = c.token-part.ensures.passed in
+    told_at _ n _ _ _ _ _ z.here c.refusal.ensures (sign_refused _ c.args.sign (λ e. let same : c.of.result ≡ Sign c.args.sign = c.of.ensures ∙ sym z.is ∙ e in search rules) n)

@@ -7,6 +7,6 @@ use Rattle.reader.proofs.cursor.Cursor.link.Goals as goal
 
 pub returns-else-eq-2 : goal.returns-else-eq-2
 returns-else-eq-2 c = λ n.
-    let z = c.token-token.ensures in
-    told_at _ n _ _ _ _ z.here c.refusal.ensures
-    (link_refused _ (λ e. let is : c.token-token.result.0 ≡ Sign And = sym z.is ∙ e in search rules) (λ e. let is : c.token-token.result.0 ≡ Sign Or = sym z.is ∙ e in search rules) n)
+    let z = c.token-part.ensures.passed in
+    told_at _ n _ _ _ _ _ z.here c.refusal.ensures
+    (link_refused _ (λ e. let is : c.of-token.result ≡ Sign And = c.of-token.ensures ∙ sym z.is ∙ e in search rules) (λ e. let is : c.of-token.result ≡ Sign Or = c.of-token.ensures ∙ sym z.is ∙ e in search rules) n)

@@ -1,15 +1,12 @@
-use Rattle.std.proofs.Common.{refl, arith}
-use Rattle.reader.proofs.Ahead.{token_fits, token_passed}
+use Rattle.std.proofs.Common.{rules}
+use Rattle.reader.proofs.Ahead.{token_fits, token_cut, token_passed}
 use Rattle.reader.proofs.cursor.Cursor.token.Goals as goal
 
-pub overflow_add-self : goal.overflow_add-self
-overflow_add-self c =
-    omega (arith, token_fits c.args.self.now.text.now _ c.args.self.now.at c.leading_spaces-spaces.result c.leading_token-token.result c.args.self.now.within refl c.leading_spaces-spaces.ensures.value c.leading_token-token.ensures)
+pub overflow_sub-self : goal.overflow_sub-self
+overflow_sub-self c = search (rules, token_fits)
 
-pub invariant_of-self : goal.invariant_of-self
-invariant_of-self c = record {
-  within = token_fits c.args.self.now.text.now _ c.args.self.now.at c.leading_spaces-spaces.result c.leading_token-token.result c.args.self.now.within refl c.leading_spaces-spaces.ensures.value c.leading_token-token.ensures;
-}
+pub returns-clause-cut : goal.returns-clause-cut
+returns-clause-cut c = search (rules, token_cut)
 
-pub returns : goal.returns
-returns c = token_passed c.args.self.now.text.now _ c.args.self.now.at c.leading_spaces-spaces.result c.leading_token-token.result c.args.self.now.within refl c.leading_spaces-spaces.ensures.value c.leading_token-token.ensures
+pub returns-clause-passed : goal.returns-clause-passed
+returns-clause-passed c = search (rules, token_passed)

@@ -1,5 +1,4 @@
-use Rattle.std.proofs.Common.{◌-◌}
 use Rattle.reader.proofs.reader.Reader.+formula.Given as goal
 
 abbrev pub decreases-formula : goal.decreases-formula
-decreases-formula l = 65 - l.level
+decreases-formula l = l.levels

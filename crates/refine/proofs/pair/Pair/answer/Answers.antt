@@ -1,18 +1,12 @@
-use Rattle.std.proofs.Common.{◌<◌, false, length, get_or, vec_items, sym, ap, ◌∙◌, arith}
-use Rattle.std.proofs.lemmas.List.{get_or_read}
+use Rattle.std.proofs.Common.{Bool, List, length, false, get_or, sym, ap, ◌∙◌, arith}
 use Rattle.kripke.specs.Structure.{State}
 use Rattle.refine.proofs.Rowed.{row_answers}
 use Rattle.refine.proofs.pair.Pair.answer.Goals as goal
 
-pub index-requires : goal.index-requires
-index-requires c =
+pub bounds-deref-q : goal.bounds-deref-q
+bounds-deref-q c =
     let r = c.row.result.0.now in
-    omega (arith, row_answers c.args.self.now c.args.i c.row.result.1 r c.requires.state c.row.ensures, c.requires.question, r.answers.ok.0)
+    omega (arith, row_answers c.args.self.now c.args.i c.row.result.1 r c.requires.state c.row.ensures, c.requires.question, ap (λ (l : List Bool). length l) c.deref.ensures.0)
 
 pub returns : goal.returns
-returns c =
-    let r = c.row.result.0.now in
-    let l : c.args.q < length (vec_items r.answers) =
-    omega (arith, row_answers c.args.self.now c.args.i c.row.result.1 r c.requires.state c.row.ensures, c.requires.question) in
-    get_or_read (vec_items r.answers) c.args.q c.index.result.now l c.index.ensures false
-    ∙ sym (ap (λ (x : State). get_or x.answers c.args.q false) c.row.ensures)
+returns c = ap (λ (l : List Bool). get_or l c.args.q false) c.deref.ensures.0 ∙ sym (ap (λ (x : State). get_or x.answers c.args.q false) c.row.ensures)

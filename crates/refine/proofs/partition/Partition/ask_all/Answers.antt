@@ -1,4 +1,4 @@
-use Rattle.std.proofs.Common.{T, length, vec_items, sym, subst, arith}
+use Rattle.std.proofs.Common.{T, length, sym, subst, arith}
 use Rattle.kripke.specs.declared.node.Node.{Node}
 use Rattle.refine.specs.Growth.{next_node}
 use Rattle.refine.specs.Steps.{Divided}
@@ -11,7 +11,7 @@ pub loop-q-init : goal.loop-q-init
 loop-q-init c = asking_none (both_of c.args.pair.now) c.args.self.now
 
 pub split-requires : goal.split-requires
-split-requires c = subst (λ (n : Node). T (next_node c.loop-q.self.questions (length (vec_items c.loop-q.self.nodes.list)) n)) (sym c.new.ensures)
+split-requires c = subst (λ (n : Node). T (next_node c.loop-q.self.questions (length c.loop-q.self.nodes.list.items) n)) (sym c.new.ensures)
     (T_and _ _ (lt_T c.loop-q.q c.loop-q.self.questions (omega (arith, c.loop-q-test.true, c.loop-q.invariant.keeps.questions))) tt)
 
 pub loop-q-preserved : goal.loop-q-preserved

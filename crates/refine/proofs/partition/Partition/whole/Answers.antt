@@ -1,5 +1,5 @@
-use Rattle.std.proofs.Common.{◌≡◌, ℕ, List, [], ◌∷◌, ◌++◌, replicate, vec_items, refl, ap, ◌∙◌, arith}
-use Rattle.kripke.specs.Nodes.{blank}
+use Rattle.std.proofs.Common.{◌≡◌, ℕ, List, [], ◌∷◌, ◌++◌, replicate, refl, ap, ◌∙◌, arith}
+use Rattle.kripke.specs.Nodes.{blank_node}
 use Rattle.kripke.specs.declared.node.Node.{Node}
 use Rattle.refine.proofs.Begins.{zeros, one_long, one_low, one_led, one_here, one_exact, one_shallow, one_orderly, one_count}
 use Rattle.refine.proofs.partition.Partition.whole.Goals as goal
@@ -7,8 +7,8 @@ use Rattle.refine.proofs.partition.Partition.whole.Goals as goal
 pub invariant_of-result : goal.invariant_of-result
 invariant_of-result c =
     let z : List ℕ = replicate 512 0 in
-    let ns : List Node = vec_items c.push_reserved.new.self in
-    let e : ns ≡ [] ++ blank ∷ [] = c.push_reserved.ensures.items ∙ ap (λ (n : Node). vec_items c.in_ok-nodes.nodes.list ++ n ∷ []) c.new.ensures ∙ ap (λ (l : List Node). l ++ blank ∷ []) c.in_ok-nodes.ensures in
+    let ns : List Node = c.push.new.self.items in
+    let e : ns ≡ [] ++ blank_node ∷ [] = c.push.ensures.items ∙ ap (λ (n : Node). c.new-nodes.result.list.items ++ n ∷ []) c.new.ensures ∙ ap (λ (l : List Node). l ++ blank_node ∷ []) c.new-nodes.ensures in
     record {
       few = c.requires.few;
       spare = omega (arith, one_long z z (zeros 512) (zeros 512) ns e);
@@ -22,8 +22,8 @@ invariant_of-result c =
 pub returns : goal.returns
 returns c =
     let z : List ℕ = replicate 512 0 in
-    let ns : List Node = vec_items c.push_reserved.new.self in
-    let e : ns ≡ [] ++ blank ∷ [] = c.push_reserved.ensures.items ∙ ap (λ (n : Node). vec_items c.in_ok-nodes.nodes.list ++ n ∷ []) c.new.ensures ∙ ap (λ (l : List Node). l ++ blank ∷ []) c.in_ok-nodes.ensures in
+    let ns : List Node = c.push.new.self.items in
+    let e : ns ≡ [] ++ blank_node ∷ [] = c.push.ensures.items ∙ ap (λ (n : Node). c.new-nodes.result.list.items ++ n ∷ []) c.new.ensures ∙ ap (λ (l : List Node). l ++ blank_node ∷ []) c.new-nodes.ensures in
     record {
       states_is = refl;
       questions_is = refl;

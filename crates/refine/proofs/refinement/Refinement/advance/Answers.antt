@@ -9,7 +9,7 @@ use Rattle.refine.specs.Stages.{rested}
 use Rattle.refine.specs.declared.partition.Partition.{Partition}
 use Rattle.refine.specs.declared.refinement.Refinement.{Refinement}
 use Rattle.refine.proofs.Rowed.{table_lawful}
-use Rattle.refine.proofs.Staging.{told_exact, exact_told, next_numbered, next_rests, next_pace}
+use Rattle.refine.proofs.Staging.{test_exact, exact_test, next_numbered, next_rests, next_pace}
 use Rattle.refine.proofs.Rounding.{now_tried}
 use Rattle.refine.proofs.refinement.Refinement.advance.Goals as goal
 
@@ -37,7 +37,7 @@ invariant_of-self c =
     record {
       long = d.keeps.states ∙ r.long;
       asks = d.keeps.questions ∙ r.asks;
-      told = exact_told (both a b) q (d.exact (told_exact (both a b) p r.told));
+      exact = exact_test (both a b) q (d.exact (test_exact (both a b) p r.exact));
       shallow = subst (λ (n : ℕ). Shallow n q) k1 (d.shallow k r.shallow);
       numbered = subst (λ (n : ℕ). Numbered a b n q.class) k1 (next_numbered a b la lb k p q r.long r.numbered d);
       low = λ s h. p.low s (omega (arith, h, d.keeps.states));
