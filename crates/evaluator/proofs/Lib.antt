@@ -1,4 +1,5 @@
 pub mod Bits
+pub mod Reversing
 pub mod Rows
 pub mod Tallies
 pub mod Members

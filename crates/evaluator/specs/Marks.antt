@@ -36,10 +36,21 @@ pub record Collects (n : ℕ) (Answers : ℕ → Bool → Type 0) (q : ℕ → B
   pub here : (s : ℕ) → s < n → Answers s (q s)
   pub beyond : (s : ℕ) → n ≤ s → s < 256 → q s ≡ false
 
--- The place of one of the four words in an order, and the word at a place.
-abbrev pub place : Order → ℕ → ℕ
-place order.Down q = 3 - q
-place order.Up q = q
+-- The place in an order of one of the numbers up to the last, and the number at a place.
+abbrev pub place : Order → ℕ → ℕ → ℕ
+place order.Down last i = last - i
+place order.Up last i = i
+
+-- Each bit that a mask has is the lower one of a pair, whose upper one is k places above it: where bit j comes from, if those of each pair
+-- change places, and that every bit of a word is in a pair.
+abbrev pub partner : ℕ → ℕ → ℕ → ℕ
+partner mask k j = cond (bit mask j) (j + k) (j - k)
+
+abbrev pub Pairs : ℕ → ℕ → Type 0
+Pairs mask k =
+    (j : ℕ) → j < 64 →
+    (bit mask j ≡ true → k ≤ j → bit mask (j - k) ≡ false)
+    × (bit mask j ≡ false → (k ≤ j) × (bit mask (j - k) ≡ true))
 
 -- How many of the numbers below n pass.
 unfoldable pub tally : (ℕ → Bool) → ℕ → ℕ

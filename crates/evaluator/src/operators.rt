@@ -4,7 +4,7 @@ ghost use Rattle.kripke.specs.Ctl.{Always, Next, Until};
 ghost use Rattle.kripke.specs.Nodes.{operator, operators};
 ghost use Rattle.kripke.specs.Structure.{answer, or_first, size, successors};
 
-use crate::row::{Order, Row, combine, first, mark, marked};
+use crate::row::{Order, Row, combine, first, lowest, mark, marked};
 use kripke::label::Label;
 use kripke::model::Model;
 use kripke::node::Node;
@@ -82,11 +82,12 @@ fn sweep<M: Model>(model: &M, quantifier: Quantifier, f: &Row, order: Order, row
     for i in 0..4usize {
         let q = order.word(i);
         // For speed, states to visit are taken bit by bit out of a word, which stays in a register: no other state takes time.
-        let mut left = f[q] & !row[q];
+        // They are taken from its lowest bit on, in either order, as finding the highest would wait for the visit before.
+        let mut left = order.arranged(f[q] & !row[q]);
         while left != 0 {
-            let j = order.bit(left);
+            let j = lowest(left);
             left &= !(1 << j);
-            let s = 64 * q + j;
+            let s = 64 * q + order.bit(j);
             if onward(model, quantifier, s, row) {
                 mark(row, s);
                 changed = true;
