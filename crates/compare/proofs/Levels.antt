@@ -1,4 +1,4 @@
--- A refinement's initial states, and the formula that tells them apart.
+-- A refinement's initial states, and the formula that separates them.
 use Rattle.std.proofs.Common.{◌≡◌, ℕ, ◌+◌, ◌*◌, ◌<◌, ◌≤◌, Bool, true, false, not, T, eqb, List, [], length, get_or, sym, refl, ap, ◌∙◌, subst, arith}
 use Rattle.std.proofs.lemmas.Bool.{eq-eqb, eqb-false, ne_eqb, lt-ltb, le-leb}
 use Rattle.kripke.specs.Structure.{Kripke, Lawful, size}
@@ -77,7 +77,7 @@ module _ (r : Refinement) where
     orderly = λ i l. absurd (omega arith);
     useful = λ i l. absurd (omega arith);
     none = λ d. refl;
-    telling = λ d. absurd (d (same_of (first r) (second r) r.rounds e));
+    separating = λ d. absurd (d (same_of (first r) (second r) r.rounds e));
   })
 
   module _ (e : level (first r) (second r) r.rounds ≡ false) (ns : List Node)
@@ -105,7 +105,7 @@ module _ (r : Refinement) where
       orderly = h.orderly;
       useful = λ i l. ∣ h.useful i l ∣₁;
       none = λ d. absurd (d (different_T (first r) (second r) r.rounds e));
-      telling = λ d. T_and _ _
+      separating = λ d. T_and _ _
           (T_and _ _ (yes-T _ (lt-ltb 0 (length ns) h.some)) (yes-T _ (le-leb _ _ (subst (λ (f : Formula). nesting f ≤ r.rounds) (sym same_root) (r.shallow one one_in)))))
           (T_and _ _ (yes-T _ at_one) (yes-T _ (ap not at_other)));
     }

@@ -14,7 +14,7 @@ use Rattle.refine.specs.Tests.{test}
 use Rattle.refine.proofs.Orders.{Shape, always, asks, denies, joins, steps, shape, well_formed, next_only, and_T}
 use Rattle.refine.proofs.Somes.{T-yes}
 use Rattle.refine.proofs.Truth.{test_holds}
-use Rattle.compare.specs.Closing.{level, tells}
+use Rattle.compare.specs.Closing.{level, separates_by_test}
 use Rattle.compare.specs.Answers.{next_codes, Separating}
 use Rattle.compare.specs.Calls.{first, second, questions, rounds, table}
 use Rattle.compare.specs.declared.comparison.Comparison.{Comparison}
@@ -29,14 +29,14 @@ coded q i n (joins c a b) = inr (inr (inr (inl c)))
 coded q i n (steps c a b) = inr (inr (inr (inr (inl c))))
 
 module _ (c : Comparison) (e : level (first c) (second c) (rounds c) ≡ false) where
-  tells_apart : T (tells (first c) (second c) (rounds c) (table c))
-  tells_apart = c.kept.telling (different_T (first c) (second c) (rounds c) e)
+  kept_separates : T (separates_by_test (first c) (second c) (rounds c) (table c))
+  kept_separates = c.kept.separating (different_T (first c) (second c) (rounds c) e)
 
   sized : T (ltb 0 (length (table c)) && leb (nesting (root (table c))) (rounds c))
-  sized = (and_T _ _ tells_apart).0
+  sized = (and_T _ _ kept_separates).0
 
   tested : T (test (both (first c) (second c)) (root (table c)) (first c).initial && not (test (both (first c) (second c)) (root (table c)) (size (first c) + (second c).initial)))
-  tested = (and_T _ _ tells_apart).1
+  tested = (and_T _ _ kept_separates).1
 
   some : 1 ≤ length (table c)
   some = ltb-true 0 (length (table c)) (T-yes _ (and_T _ _ sized).0)

@@ -27,7 +27,7 @@ pub record Decides (a b : Kripke) (k : ℕ) (v : Verdict) : Type 0 where
 abbrev pub next_codes : List ℕ
 next_codes = 0 ∷ 1 ∷ 2 ∷ 3 ∷ 5 ∷ []
 
--- A table of a formula that tells the initial states apart: next-only and in order for q questions, of 1 to 4 N - 3 nodes, every one a part of the root;
+-- A table of a formula that separates the initial states: next-only and in order for q questions, of 1 to 4 N - 3 nodes, every one a part of the root;
 -- the root nests k deep, holds at the first initial state and fails at the second, and no next-only formula that separates them nests less deep.
 pub record Separating (a b : Kripke) (q k : ℕ) (ns : List Node) : Type 0 where
   pub some : 1 ≤ length ns

@@ -44,13 +44,13 @@ pub record Rounded (c d : Comparison) (n : ℕ) : Type 0 where
   pub soon : suc (rounds c) ≤ total (first c) (second c)
   pub classes : Classes (first c) (second c) (suc (rounds c)) n
 
--- The nodes are the kept table, which tells the models apart; there are 2045 at most.
+-- The nodes are the kept table, which separates the models; there are 2045 at most.
 pub record Lent (c : Comparison) (nodes : List Node) : Type 0 where
   pub kept : nodes ≡ table c
   pub separating : Separating (first c) (second c) (questions c) (rounds c) nodes
   pub short : length nodes ≤ 2045
 
--- The first n places hold the table, which tells the models apart, and the rest is as it was.
+-- The first n places hold the table, which separates the models, and the rest is as it was.
 pub record Written (c : Comparison) (before after : List Node) (n : ℕ) : Type 0 where
   pub separating : Separating (first c) (second c) (questions c) (rounds c) (table c)
   pub count : n ≡ length (table c)

@@ -1,4 +1,4 @@
--- The closing rule, and what a kept formula has to tell.
+-- The closing rule, and the test that a kept formula has to pass: it separates the initial states.
 use Rattle.std.specs.Prelude.{ℕ, ◌+◌, Bool, not, ◌&&◌, List, length, nat_le, nat_lt, Some, None, Option}
 use Rattle.kripke.specs.Structure.{Kripke, size}
 use Rattle.kripke.specs.Ctl.{nesting}
@@ -22,7 +22,7 @@ Reached a b k (Some Alike) = ClosedAlike a b k
 Reached a b k None = ¬ ClosedAfter a b k
 
 -- The table's root holds at the first initial state, fails at the second, and nests at most k deep.
-abbrev pub tells : Kripke → Kripke → ℕ → List Node → Bool
-tells a b k ns =
+abbrev pub separates_by_test : Kripke → Kripke → ℕ → List Node → Bool
+separates_by_test a b k ns =
     (nat_lt 0 (length ns) && nat_le (nesting (root ns)) k)
     && (test (both a b) (root ns) a.initial && not (test (both a b) (root ns) (size a + b.initial)))

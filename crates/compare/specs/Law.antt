@@ -36,7 +36,7 @@ pub data Obeys (a b : Kripke) (q k : ℕ) (ns : List Node) : Request → Answere
   -- Closed, the verdict is alike exactly when no CTL formula separates the initial states.
   decided : (v : Verdict) → Clean (VerdictBreach a b k) → Decides a b k v → Obeys a b q k ns request.Verdict (Ok (answer.Verdict v)) k
   no_verdict : (e : Refusal) → FirstBreach (VerdictBreach a b k) Comparison e → Obeys a b q k ns request.Verdict (Err e) k
-  -- Closed as different, the formula is of least nesting, and separates them; the answer is the number of its nodes.
+  -- Closed as different, the formula is a next-only one of least nesting, and separates them; the answer is the number of its nodes.
   formulated : (p n : ℕ) → Clean (FormulaBreach a b k p) → Separating a b q k ns → n ≡ length ns → Obeys a b q k ns (request.Formula p) (Ok (answer.Formula n)) k
   no_formula : (p : ℕ) (e : Refusal) → FirstBreach (FormulaBreach a b k p) Comparison e → Obeys a b q k ns (request.Formula p) (Err e) k
 

@@ -8,7 +8,7 @@ ghost use Rattle.kripke.specs.Rounds.{ClosedAfter, FirstClosed};
 ghost use Rattle.kripke.specs.declared.refusal.Layer.TheVariants as layer;
 
 use crate::comparison::Comparison;
-use crate::telling::{differs, keep};
+use crate::keeping::{differs, keep};
 use crate::verdict::{Outcome, Verdict};
 use kripke::label::Label;
 use kripke::model::Model;
@@ -17,7 +17,8 @@ use refine::nodes::Nodes;
 use refine::refinement::Refinement;
 
 impl Comparison {
-    /// Opens the comparison of two models of one label kind: no round is accepted yet, and it may be closed as different at once. It cannot fail.
+    /// Opens the comparison of two models of one label kind: no round is accepted yet, and it may be closed as different at once (docs/LOGIC.md, "Rounds and classes").
+    /// It refuses nothing and cannot fail.
     pub fn open<L: Label, M: Model<Label = L>, N: Model<Label = L>>(
         first: &M,
         second: &N,
@@ -53,9 +54,10 @@ impl Comparison {
         count
     }
 
-    /// One round; how many classes it leaves. A comparison accepts no more rounds than both models have states.
+    /// One round; how many classes it leaves, 1 to the number of states of both models, 512 at most. A comparison accepts no more rounds than both models have states.
+    /// docs/LOGIC.md has what a round splits ("Rounds and classes") and how ("The comparison").
     ///
-    /// Refuses with 17 when the comparison is closed, at the accepted rounds.
+    /// Refuses with 17 when the comparison is closed, at the accepted rounds (docs/REFUSALS.md, "Causes").
     pub fn round(&mut self) -> Result<usize, Refusal>
         ensures { Judged result record {
           breaches = RoundBreach (first self.old) (second self.old) (rounds self.old);
@@ -70,7 +72,8 @@ impl Comparison {
         }
     }
 
-    /// Makes rounds until the comparison is closed, which is after no more of them than both models have states. A closed comparison stays as it is.
+    /// Makes rounds until the comparison is closed, which is after no more of them than both models have states (docs/LOGIC.md, "The theorems": closing comes in time).
+    /// A closed comparison stays as it is. It refuses nothing.
     pub fn close(&mut self)
         ensures same { SameModels self.old self.new }
         ensures still { ClosedAfter (first self.old) (second self.old) (rounds self.old) → self.new ≡ self.old }
@@ -82,9 +85,9 @@ impl Comparison {
     }
 
     /// The class of state `i`: the least number of a state that no next-only formula, nesting no deeper than the accepted rounds, separates from it.
-    /// The states of both models are numbered through from 0, those of the second after those of the first.
+    /// The states of both models are numbered through from 0, those of the second after those of the first (docs/LOGIC.md, "Rounds and classes").
     ///
-    /// Refuses with 18 when there is no state `i`, at that number.
+    /// Refuses with 18 when there is no state `i`, at that number (docs/REFUSALS.md, "Causes").
     pub fn class(&self, i: usize) -> Result<usize, Refusal>
         ensures { Judged result record {
           breaches = ClassBreach (first self.now) (second self.now) i;
@@ -99,9 +102,10 @@ impl Comparison {
         Ok(self.stages.parts.class[i] as usize)
     }
 
-    /// Alike or different, after how many rounds: alike exactly when no CTL formula of any size separates the initial states.
+    /// Alike or different, after how many rounds: alike exactly when no CTL formula of any size separates the initial states
+    /// (docs/LOGIC.md, "The theorems": what closing means).
     ///
-    /// Refuses with 19 while the comparison is open, at the accepted rounds.
+    /// Refuses with 19 while the comparison is open, at the accepted rounds (docs/REFUSALS.md, "Causes").
     pub fn verdict(&self) -> Result<Verdict, Refusal>
         ensures { Judged result record {
           breaches = VerdictBreach (first self.now) (second self.now) (rounds self.now);

@@ -4,9 +4,9 @@
 
 mod calls;
 pub mod comparison;
+mod keeping;
 mod prune;
 mod reading;
 pub mod requests;
 mod running;
-mod telling;
 pub mod verdict;

@@ -6,15 +6,15 @@ ghost use Rattle.kripke.specs.Rounds.{total};
 ghost use Rattle.kripke.specs.declared.refusal.Layer.TheVariants as layer;
 
 use crate::comparison::Comparison;
-use crate::telling::differs;
+use crate::keeping::differs;
 use kripke::node::Node;
 use kripke::refusal::{Cause, Layer, Refusal};
 
 impl Comparison {
-    /// The nodes of a formula of least nesting that holds at the initial state of the first model and fails at that of the second: next-only, in order, every node a part of the root,
-    /// 1 to 4 N - 3 of them for N states in both models, so 2,045 at most.
+    /// The nodes of a next-only formula of least nesting that holds at the initial state of the first model and fails at that of the second: in order, every node a part of the root,
+    /// 1 to 4 N - 3 of them for N states in both models, so 2,045 at most (docs/LOGIC.md, "The comparison").
     ///
-    /// Refuses with 20 unless the comparison is closed as different, at the accepted rounds.
+    /// Refuses with 20 unless the comparison is closed as different, at the accepted rounds (docs/REFUSALS.md, "Causes").
     pub fn table(&self) -> Result<&[Node], Refusal>
         ensures { Judged result record {
           breaches = TableBreach (first self.now) (second self.now) (rounds self.now);
@@ -52,9 +52,10 @@ impl Comparison {
         Ok(nodes)
     }
 
-    /// Writes the nodes that `table` lends to the first places; how many they are. The rest of the places stays as it was.
+    /// Writes the nodes that `table` lends to the first places; how many they are. The rest of the places stays as it was
+    /// (docs/FORMATS.md, "Requests and answers of a comparison").
     ///
-    /// Refuses, with all places as they were:
+    /// Refuses, with all places as they were (docs/REFUSALS.md, "Causes"):
     /// - 20 unless the comparison is closed as different, at the accepted rounds;
     /// - 21 where there are fewer than 4 N - 3 places for N states in both models, at their number.
     pub fn formula(&self, places: &mut [Node]) -> Result<usize, Refusal>

@@ -26,7 +26,7 @@ impl Comparison {
     /// Answers requests in their order, into the places from the first on, as many as there are places: each gets its answer or its refusal (17 to 21, layer 6).
     /// Requests past the places are not looked at, and the rest of the places stays as it was. A formula that is told is the one that `table` lends then.
     ///
-    /// Where no round is accepted the comparison is exactly what it was. docs/FORMATS.md has requests and answers.
+    /// Where no round is accepted the comparison is exactly what it was. docs/FORMATS.md has requests and answers ("Requests and answers of a comparison").
     pub fn run(&mut self, requests: &[Request], answers: &mut [Result<Answer, Refusal>])
         ensures law { let n = served requests.now answers.old in
             Run (first self.old) (second self.old) (questions self.old) (rounds self.old) (table self.new) (take n requests.now) (take n answers.new) (rounds self.new) }
@@ -40,6 +40,8 @@ impl Comparison {
     }
 
     /// Opens the comparison of two models of one label kind and runs the requests on it, as `open` and `run` do; the comparison as it is after them.
+    /// Each place that is reached has its answer or its refusal (17 to 21, layer 6); the call itself refuses nothing and allocates nothing
+    /// (docs/FORMATS.md, "Requests and answers of a comparison"; docs/LOGIC.md, "The comparison": a run).
     pub fn open_and_run<L: Label, M: Model<Label = L>, N: Model<Label = L>>(
         first: &M,
         second: &N,

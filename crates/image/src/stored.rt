@@ -5,7 +5,8 @@ ghost use Rattle.image.specs.Stored.{Inside};
 use self::row::Row;
 use crate::records::{HEADER, LINK_RECORD, MOST_LINKS, MOST_STATES, STATE_RECORD};
 
-/// No image that is loaded has more bytes: a longer one is refused.
+/// How many bytes the longest image has: 256 states and 4,096 links (docs/FORMATS.md, "The stored image"). A longer one is refused: by 3 where its header is in order,
+/// else by 2 (docs/REFUSALS.md, "Causes").
 pub const LONGEST_IMAGE: usize = HEADER + STATE_RECORD * MOST_STATES + LINK_RECORD * MOST_LINKS;
 
 const _: () = prove!(LONGEST_IMAGE == 18_440);

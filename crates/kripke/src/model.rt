@@ -11,13 +11,14 @@ pub trait Model {
     /// The label of a state.
     type Label: Label;
 
+    /// The structure that a model means: its states, each with the answers of its label and its successors, and the initial state's number.
     ghost meaning: { Self → Kripke };
 
     /// The number of states, 1 to 256.
     fn states(&self) -> usize
         ensures { result ≡ size (meaning self.now) };
 
-    /// The number of the initial state.
+    /// The number of the initial state, below the number of states.
     fn initial(&self) -> usize
         ensures { result ≡ (meaning self.now).initial };
 
@@ -33,5 +34,6 @@ pub trait Model {
     fn successor(&self, s: usize, i: usize) -> usize
         ensures { result ≡ or_first (successors (meaning self.now) s) i 0 };
 
+    /// What each model means is lawful, with labels of its kind.
     ghost lawful: { (m : Self) → Lawful Self.Label.Label.count (meaning m) };
 }

@@ -1,7 +1,7 @@
 ghost use Rattle.kripke.specs.Quantifiers.{dual};
 ghost use Rattle.std.specs.Prelude.{◌≡◌};
 
-/// The path quantifiers of CTL.
+/// The path quantifiers of CTL (docs/LOGIC.md, "Formulas").
 #[derive(Clone, Copy, PartialEq, Eq, Debug)]
 pub enum Quantifier {
     /// E: on some path.
@@ -11,7 +11,8 @@ pub enum Quantifier {
 }
 
 impl Quantifier {
-    /// The other quantifier, which tells of the negation: where a formula does not hold on some path, its negation holds on each.
+    /// The other quantifier, which tells of the negation: where a formula does not hold on some path, its negation holds on each
+    /// (docs/LOGIC.md, "How the evaluator decides, and why it is right").
     pub fn dual(self) -> Quantifier
         ensures { result ≡ dual self }
     {

@@ -5,7 +5,7 @@ ghost use Rattle.kripke.specs.declared.refusal.Error.TheVariants.{Memory, Refuse
 use std::alloc::{AllocError, AllocFailed};
 use std::fmt;
 
-/// Why a call is refused, by its number, and what the place of the refusal is then. docs/REFUSALS.md has each case in full.
+/// Why a call is refused, by its number, and what the place of the refusal is then. docs/REFUSALS.md has each case in full ("Causes").
 #[derive(Clone, Copy, PartialEq, Eq, Debug)]
 pub enum Cause {
     /// 1: an image has fewer than 8 bytes. Place: its length.
@@ -54,7 +54,7 @@ pub enum Cause {
     ReportSize,
 }
 
-/// Who refuses, by its number.
+/// Who refuses, by its number (docs/REFUSALS.md, "Layers").
 #[derive(Clone, Copy, PartialEq, Eq, Debug)]
 pub enum Layer {
     /// 1: an image that is loaded as the first or only one.
@@ -75,8 +75,8 @@ pub enum Layer {
 
 /// Why a call was refused, by whom, and where in its input. A refused call has changed nothing.
 ///
-/// Where an input breaks several rules, the lowest number is told, and of one number the lowest place; a text of a formula has an order of its own (docs/REFUSALS.md).
-/// It is printed as the line `refused N L P`, without its end: the numbers of the cause and of the layer, and the place.
+/// Where an input breaks several rules, the lowest number is told, and of one number the lowest place; a text of a formula has an order of its own (docs/REFUSALS.md, "Causes").
+/// It is printed as the line `refused N L P`, without its end: the numbers of the cause and of the layer, and the place (docs/FORMATS.md, "The line of a refusal").
 #[derive(Clone, Copy, PartialEq, Eq, Debug)]
 pub struct Refusal {
     /// Why.
@@ -88,7 +88,7 @@ pub struct Refusal {
 }
 
 impl Layer {
-    /// The refusal of this layer for a cause, at a place.
+    /// The refusal of this layer for a cause, at a place. That the cause is one of this layer's is not looked at (docs/REFUSALS.md, "Causes").
     pub fn refusal(self, cause: Cause, place: usize) -> Refusal
         ensures { result ≡ record { cause = cause; layer = self; place = place } }
     {
@@ -102,14 +102,14 @@ impl Layer {
 
 // A refusal has two numbers, so each is asked for by its name.
 impl Refusal {
-    /// The number of the cause, 1 to 22.
+    /// The number of the cause, 1 to 22 (docs/REFUSALS.md, "Causes").
     pub fn number(&self) -> u8
         ensures { result ≡ number_of self.now.cause }
     {
         self.cause as u8
     }
 
-    /// The number of the layer, 1 to 7.
+    /// The number of the layer, 1 to 7 (docs/REFUSALS.md, "Layers").
     pub fn layer_number(&self) -> u8
         ensures { result ≡ layer_of self.now.layer }
     {
@@ -117,6 +117,7 @@ impl Refusal {
     }
 }
 
+/// The line of the refusal, without its end (docs/FORMATS.md, "The line of a refusal").
 impl fmt::Display for Refusal {
     ghost output = { λ e. Some (told_as e) };
 
@@ -128,7 +129,7 @@ impl fmt::Display for Refusal {
     }
 }
 
-/// How a call that allocates can fail. Either way it has changed nothing.
+/// How a call that allocates can fail. Either way it has changed nothing. docs/REFUSALS.md has the refusals ("Causes"), docs/DECISIONS.md the calls that allocate ("Memory").
 #[derive(Clone, Copy, PartialEq, Eq, Debug)]
 pub enum Error {
     /// The input breaks a rule.
@@ -137,6 +138,7 @@ pub enum Error {
     Memory,
 }
 
+/// A refusal is passed upward as it is.
 impl From<Refusal> for Error {
     ghost from_gives = { λ e r. r ≡ Refused e };
 
@@ -145,6 +147,7 @@ impl From<Refusal> for Error {
     }
 }
 
+/// Memory was wanting.
 impl From<AllocError> for Error {
     ghost from_gives = { λ _ r. r ≡ Memory };
 
@@ -153,6 +156,7 @@ impl From<AllocError> for Error {
     }
 }
 
+/// Memory was wanting for a value, which is let go.
 impl<T: Drop> From<AllocFailed<T>> for Error {
     ghost from_gives = { λ _ r. r ≡ Memory };
 

@@ -18,7 +18,7 @@ pub struct UnknownKind(pub u8);
 
 impl Kind {
     /// The kind that an image names by its first byte. An image that names none is given to signal words, which refuse it:
-    /// by 1 where it is shorter than a header, else by 2 at place 0.
+    /// by 1 where it is shorter than a header, else by 2 at place 0 (docs/REFUSALS.md, "Causes").
     pub fn of_image(image: &[u8]) -> Kind
         ensures { result ≡ named image.now }
     {
@@ -29,6 +29,7 @@ impl Kind {
     }
 }
 
+/// The number of a kind, 1 or 2.
 impl From<Kind> for u8 {
     ghost from_gives = { λ kind number. number ≡ kind_number kind };
 
@@ -37,6 +38,7 @@ impl From<Kind> for u8 {
     }
 }
 
+/// The kind that has a number; the error tells a number that none has.
 impl TryFrom<u8> for Kind {
     type Error = UnknownKind;
 
@@ -51,6 +53,7 @@ impl TryFrom<u8> for Kind {
     }
 }
 
+/// The name of the kind in lowercase letters, `signal words` or `readings`.
 impl fmt::Display for Kind {
     ghost output = { λ kind. Some (names kind) };
 

@@ -34,7 +34,8 @@ enum Band {
 }
 
 impl Reading {
-    /// The reading of a level and its limits; none exactly where the limits do not rise. Every level is taken.
+    /// The reading of a level and its limits; none exactly where the limits do not rise. Every level is taken
+    /// (docs/FORMATS.md, "Labels").
     pub fn new(level: u8, fault: u8, pre_alarm: u8, alarm: u8) -> Option<Reading>
         ensures { MatchOption result (¬ ((fault < pre_alarm) × (pre_alarm < alarm))) (λ x. (x.level ≡ level) × (x.fault ≡ fault) × (x.pre_alarm ≡ pre_alarm) × (x.alarm ≡ alarm)) }
     {

@@ -15,7 +15,7 @@ use Rattle.report.specs.declared.report.Report.{Report}
 
 -- The comparison of a and b closes after k rounds, at most as many as there are states, and after no fewer.
 -- Then the text reports them alike, and no CTL formula of any size separates their initial states;
--- or different, with the table of a formula of least nesting that holds at the first and fails at the second.
+-- or different, with the table of a next-only formula of least nesting that holds at the first and fails at the second.
 pub data Reports (q : ℕ) (a b : Kripke) : List ℕ → Type 0 where
   alike : (k : ℕ) → k ≤ total a b → FirstClosed a b k → ¬ Apart a b a.initial b.initial → Reports q a b (alike_text k)
   different : (k : ℕ) (ns : List Node) → k ≤ total a b → FirstClosed a b k → Separating a b q k ns → Reports q a b (differ_text k ns)

@@ -58,7 +58,7 @@ fn different<M: Model>(
 
 fn alike(heap: Global, rounds: usize, old: usize, new: usize) -> Result<String, AllocError> {
     let rounds = Counted(rounds, "round");
-    let new = Counted(new, "state");
+    let (old, new) = (Counted(old, "state"), Counted(new, "state"));
     format!(in heap;
         "alike after {rounds} ({old} and {new}): no condition of any size tells the two panels apart\n"
     )

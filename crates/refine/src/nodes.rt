@@ -3,7 +3,8 @@ ghost use Rattle.std.specs.Prelude.{◌≡◌, []};
 use arrayvec::ArrayVec;
 use kripke::node::Node;
 
-/// A table of nodes with room for 2,048, which is more than the formula of a comparison can have.
+/// A table of nodes (docs/LOGIC.md, "Node tables") with room for 2,048, which is more than the formula of a comparison can have: 2,045
+/// (docs/LOGIC.md, "The comparison").
 #[derive(Drop)]
 pub struct Nodes {
     /// The nodes, the last one the root.
@@ -11,7 +12,7 @@ pub struct Nodes {
 }
 
 impl Nodes {
-    /// A table of no node.
+    /// A table of no node. It allocates nothing, and cannot fail.
     pub fn new() -> Nodes
         ensures { result.list.items ≡ [] }
     {

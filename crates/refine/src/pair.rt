@@ -8,13 +8,13 @@ use crate::sources::Sources;
 use crate::table::Table;
 use crate::turning::reverse;
 
-/// Two structures whose labels answer the same questions, and for each state the states that lead to it. The states of both are numbered through,
-/// those of the second after those of the first.
+/// Two structures whose labels answer the same questions, and for each state the states that lead to it. The states of both are numbered through from 0,
+/// those of the second after those of the first (docs/LOGIC.md, "The comparison").
 #[derive(Drop)]
 pub struct Pair {
-    /// The first structure.
+    /// The first structure, 1 to 256 states.
     pub first: Table,
-    /// The second.
+    /// The second, 1 to 256 states.
     pub second: Table,
     /// The states that lead to each state.
     pub sources: Sources,

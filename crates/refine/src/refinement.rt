@@ -9,7 +9,7 @@ ghost use Rattle.refine.specs.Steps.{Shallow};
 use crate::pair::Pair;
 use crate::partition::Partition;
 
-/// Two structures, and the classes of their states after some rounds. docs/LOGIC.md, "The comparison", has how a round splits them.
+/// Two structures, and the classes of their states after some rounds. docs/LOGIC.md has how a round splits them ("The comparison").
 #[derive(Drop)]
 pub struct Refinement {
     /// The structures.
@@ -18,7 +18,7 @@ pub struct Refinement {
     pub parts: Partition,
     /// The class of each state before the last round, or before the labels were looked at: all states were in one class then.
     pub before: [u16; 512],
-    /// How many rounds were made.
+    /// How many rounds were made, fewer than there are states, or as many.
     pub rounds: usize,
     /// The last round split nothing.
     pub rests: bool,

@@ -10,7 +10,8 @@ use kripke::label::Label;
 use kripke::model::Model;
 
 impl Refinement {
-    /// Reads two models of one label kind, and splits their states by their labels. No round is made yet. It allocates nothing, and cannot fail.
+    /// Reads two models of one label kind, and splits their states by their labels. No round is made yet. It allocates nothing, and cannot fail
+    /// (docs/LOGIC.md, "The comparison").
     pub fn open<L: Label, M: Model<Label = L>, N: Model<Label = L>>(
         first: &M,
         second: &N,
@@ -49,7 +50,8 @@ impl Refinement {
         self.parts.count as usize
     }
 
-    /// One round more, unless the last one split nothing: then it changes nothing. How many classes there are after it.
+    /// One round more, unless the last one split nothing: then it changes nothing. How many classes there are after it, 1 to 512.
+    /// It refuses nothing: a comparison, which closes, does (docs/LOGIC.md, "The comparison").
     pub fn round(&mut self) -> usize
         ensures { Advanced self.old self.new result }
     {

@@ -8,9 +8,9 @@ use arrayvec::ArrayVec;
 /// A lawful structure as it was read from a model (docs/LOGIC.md, "Models").
 #[derive(Drop)]
 pub struct Table {
-    /// How many questions its labels answer.
+    /// How many questions its labels answer, 32 at most.
     pub questions: usize,
-    /// The number of the initial state.
+    /// The number of the initial state, below the number of states.
     pub initial: usize,
     /// The states, 1 to 256.
     pub rows: ArrayVec<Row, 256>,

@@ -24,7 +24,8 @@ fn text_length(report: Report) -> Result<usize, Refusal>
 
 /// Writes the report's text (docs/FORMATS.md, "The report") from the start of the bytes, and answers its length in bytes. The rest of the bytes stays as it was.
 ///
-/// Refuses with 22, in layer 7, at place 0, and with all bytes as they were, a report of more than 2,045 nodes, and one that has more bytes than are given.
+/// Refuses with 22, in layer 7, at place 0, and with all bytes as they were, a report of more than 2,045 nodes, and one that has more bytes than are given
+/// (docs/REFUSALS.md, "Causes").
 pub fn write_report(report: Report, out: &mut [u8]) -> Result<usize, Refusal>
     ensures { Judged result record {
       breaches = ReportBreach report.entry (length out.old);
@@ -39,9 +40,10 @@ pub fn write_report(report: Report, out: &mut [u8]) -> Result<usize, Refusal>
     Ok(write_text(report, out))
 }
 
-/// The report's text in bytes of its own, just as many as it has.
+/// The report's text in bytes of its own, just as many as it has, some 40 KB at most (docs/FORMATS.md, "The report").
 ///
-/// Refuses with 22, in layer 7, at place 0, a report of more than 2,045 nodes. Want of memory is its only other error.
+/// Refuses with 22, in layer 7, at place 0, a report of more than 2,045 nodes (docs/REFUSALS.md, "Causes"). Want of memory is its only other error
+/// (docs/DECISIONS.md, "Memory").
 pub fn report_text(heap: Global, report: Report) -> Result<Vec<u8>, Error>
     ensures { JudgedInMemory result record {
       breaches = ReportBreach report.entry (length (report_text report.entry));

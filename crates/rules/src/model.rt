@@ -5,10 +5,10 @@ ghost use Rattle.rules.specs.Limits.{LawfulRule, Limits};
 use crate::rule::Rule;
 use arrayvec::ArrayVec;
 
-/// A model has no more bits.
+/// A model has no more bits, and at least one: other numbers are refused by 7 (docs/FORMATS.md, "The rule list"; docs/REFUSALS.md, "Causes").
 pub const MOST_BITS: usize = 8;
 
-/// A model has no more rules.
+/// A model has no more rules, and may have none: more are refused by 7 (docs/FORMATS.md, "The rule list"; docs/REFUSALS.md, "Causes").
 pub const MOST_RULES: usize = 16;
 
 /// A model of 2^b states, b from 1 to 8, that is given by 0 to 16 rules (docs/FORMATS.md, "The rule list").

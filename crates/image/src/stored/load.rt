@@ -45,8 +45,9 @@ fn fill<L: Coded>(image: &Sound<L>, rows: &mut Vec<Row<L>>)
 }
 
 impl<L: Coded> StoredModel<L> {
-    /// A fresh model: one state, its own successor and initial, with the fresh label of its kind. It has the room for every model
-    /// that an image can describe. Want of memory is the only error, and no other call of a holder meets it.
+    /// A fresh model: one state, its own successor and initial, with the fresh label of its kind (docs/FORMATS.md, "The stored image").
+    /// It has the room for every model that an image can describe. Want of memory is the only error, and no other call of a holder
+    /// meets it (docs/DECISIONS.md, "Memory").
     pub fn new(heap: Global) -> Result<StoredModel<L>, AllocError>
         ensures meaning { IfOk result (λ m. Fresh L.Coded.coding (meaning_of L.Label.answers m)) }
         ensures label { IfOk result (λ m. (d : Row L) → L.Coded.codes L.Coded.coding.fresh (label_at m 0 d)) }
@@ -81,7 +82,7 @@ impl<L: Coded> StoredModel<L> {
     /// An image that breaks a rule is refused, in layer 1 or 2 by its slot, by the least of these numbers that fits it, and of one
     /// number at the least place: 1, it is shorter than a header; 2, a header field is outside its limits; 3, its length is another
     /// than the header asks for; 4, a state record is not in order; 5, a link record is not; 6, a chain has more than 16 links.
-    /// docs/FORMATS.md has the rules ("The stored image"), docs/REFUSALS.md the places. A refusal changes nothing, and nothing is
+    /// docs/FORMATS.md has the rules ("The stored image"), docs/REFUSALS.md the places ("Causes"). A refusal changes nothing, and nothing is
     /// allocated.
     #[tactic(auto, using(crate::proofs::Unique::one_given))]
     pub fn load(&mut self, image: &[u8], slot: Slot) -> Result<(), Refusal>

@@ -5,7 +5,7 @@ use Rattle.refine.specs.Steps.{class_of}
 use Rattle.compare.specs.Closing.{level}
 use Rattle.compare.specs.Pruned.{Pruned}
 use Rattle.compare.proofs.Levels.{level_at, kept_none, kept_some}
-use Rattle.compare.proofs.telling.keep.Goals as goal
+use Rattle.compare.proofs.keeping.keep.Goals as goal
 
 pub returns-then-one-other : goal.returns-then-one-other
 returns-then-one-other c =
