@@ -33,7 +33,7 @@ pub struct Evaluation {
 /// Writes, for node i, the states at which its formula holds to the words 4i to 4i + 3, state s as bit s mod 64 of word s div 64.
 /// The other bits of the rows become 0, and the words past the rows stay as they were (docs/FORMATS.md, "The rows of the word table"). It allocates nothing.
 ///
-/// Refuses, in layer 5, with all words as they were (docs/REFUSALS.md):
+/// Refuses, in layer 5, with all words as they were (docs/REFUSALS.md, "Causes"):
 /// - 14 where the table has no node, or more than 2,045, at place 0;
 /// - 15 where a node is not in order, at its number;
 /// - 16 where there are fewer than four words a node, at the number of words.
