@@ -1,6 +1,6 @@
 // Tests of rule models, and of the evaluator at rule and stored models. What is refused must leave all as it was.
 
-use crate::building::{evaluated, evaluation, image, loaded, numbered, table};
+use crate::building::{evaluated, evaluation, image, loaded, numbered, same, table};
 use crate::holding::moves;
 use evaluator::Evaluation;
 use kripke::model::Model;
@@ -127,10 +127,8 @@ fn rejected(
 ) -> Result<(), Fail> {
     let mut words = numbered(heap, count)?;
     let refusal = Layer::Evaluation.refusal(cause, place);
-    assert_eq!(rt;
-        evaluation(&RuleModel::new(), nodes, words.as_mut_slice()),
-        Err(refusal)
-    );
+    let outcome = evaluation(&RuleModel::new(), nodes, words.as_mut_slice());
+    same(rt, &outcome, &Err(refusal));
     assert_eq!(rt; words, numbered(heap, count)?);
     Ok(())
 }
