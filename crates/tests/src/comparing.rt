@@ -1,10 +1,9 @@
 // Tests of the comparison: stored models of both kinds, rule models, one of each, and models of 256 states.
 
-use crate::building::{DARK, ONE, chain, stored};
+use crate::building::{DARK, ONE, chain, holds, same, stored};
 use compare::comparison::Comparison;
 use compare::requests::{Answer, Request};
 use compare::verdict::{Outcome, Verdict};
-use evaluator::evaluate;
 use image::stored::StoredModel;
 use kripke::label::Label;
 use kripke::model::Model;
@@ -39,17 +38,13 @@ fn closes<L: Label, M: Model<Label = L>, N: Model<Label = L>>(
 ) -> Result<Comparison, Fail> {
     let mut comparison = Comparison::open(first, second);
     for k in 0..rounds {
-        assert_eq!(rt;
-            comparison.verdict(),
-            Err(refusal(Cause::OpenComparison, k))
-        );
+        let open = Err(refusal(Cause::OpenComparison, k));
+        same(rt, &comparison.verdict(), &open);
         comparison.round()?;
     }
-    assert_eq!(rt; comparison.verdict(), Ok(Verdict { rounds, outcome }));
-    assert_eq!(rt;
-        comparison.round(),
-        Err(refusal(Cause::ClosedComparison, rounds))
-    );
+    same(rt, &comparison.verdict(), &Ok(Verdict { rounds, outcome }));
+    let closed = Err(refusal(Cause::ClosedComparison, rounds));
+    same(rt, &comparison.round(), &closed);
     Ok(comparison)
 }
 
@@ -62,15 +57,25 @@ fn separates<L: Label, M: Model<Label = L>, N: Model<Label = L>>(
     second: &N,
     nodes: usize,
 ) -> Result<(), Fail> {
+    let places = formula(rt, heap, comparison, nodes)?;
+    assert!(rt; holds(heap, first, places.as_slice())?);
+    assert!(rt; !holds(heap, second, places.as_slice())?);
+    Ok(())
+}
+
+// The formula, which has so many nodes, and is the table.
+fn formula(
+    rt: &impl Abort,
+    heap: Global,
+    comparison: &Comparison,
+    nodes: usize,
+) -> Result<Vec<Node>, Fail> {
     let filler = Node::new(Operator::EG, 9, 9);
     let mut places = vec![in heap; filler; 2045]?;
-    let mut table = vec![in heap; 0; 8180]?;
     assert_eq!(rt; comparison.formula(places.as_mut_slice()), Ok(nodes));
     places.truncate(nodes);
     assert_eq!(rt; comparison.table(), Ok(places.as_slice()));
-    assert!(rt; evaluate(first, places.as_slice(), table.as_mut_slice())?.holds);
-    assert!(rt; !evaluate(second, places.as_slice(), table.as_mut_slice())?.holds);
-    Ok(())
+    Ok(places)
 }
 
 const TWO: [u8; 4] = [2, 0, 0, 0];
@@ -180,32 +185,27 @@ fn chains(rt: HostRuntime) -> Result<(), Fail> {
     Ok(())
 }
 
-// What each of a list of requests is answered.
-#[test]
-fn requests(rt: HostRuntime) -> Result<(), Fail> {
-    let heap = rt.alloc();
-    let l = dark(heap)?;
-    let s = slow(heap)?;
-    let asked = [
-        Request::Class(2),
-        Request::Class(4),
-        Request::Verdict,
-        Request::Formula(13),
-        Request::Round,
-        Request::Class(2),
-        Request::Class(1),
-        Request::Round,
-        Request::Round,
-        Request::Verdict,
-        Request::Formula(12),
-        Request::Formula(13),
-        Request::Formula(13),
-        Request::Class(1),
-    ];
-    let mut answers = [Err(refusal(Cause::FewPlaces, 0)); 15];
-    let c = Comparison::open_and_run(&l, &s, &asked, &mut answers);
-    assert_eq!(rt; c.table()?.len(), 6);
-    let wanted = [
+const ASKED: [Request; 14] = [
+    Request::Class(2),
+    Request::Class(4),
+    Request::Verdict,
+    Request::Formula(13),
+    Request::Round,
+    Request::Class(2),
+    Request::Class(1),
+    Request::Round,
+    Request::Round,
+    Request::Verdict,
+    Request::Formula(12),
+    Request::Formula(13),
+    Request::Formula(13),
+    Request::Class(1),
+];
+
+// What they are answered, and what is in a place that is not written.
+fn answers() -> [Result<Answer, Refusal>; 15] {
+    let few = Err(refusal(Cause::FewPlaces, 0));
+    [
         Ok(Answer::Class(0)),
         Err(refusal(Cause::StateNumber, 4)),
         Err(refusal(Cause::OpenComparison, 0)),
@@ -223,8 +223,19 @@ fn requests(rt: HostRuntime) -> Result<(), Fail> {
         Ok(Answer::Formula(6)),
         Ok(Answer::Formula(6)),
         Ok(Answer::Class(1)),
-        Err(refusal(Cause::FewPlaces, 0)),
-    ];
-    assert_eq!(rt; answers, wanted);
+        few,
+    ]
+}
+
+// What each of a list of requests is answered; the place past them stays.
+#[test]
+fn requests(rt: HostRuntime) -> Result<(), Fail> {
+    let heap = rt.alloc();
+    let l = dark(heap)?;
+    let s = slow(heap)?;
+    let mut places = [Err(refusal(Cause::FewPlaces, 0)); 15];
+    let c = Comparison::open_and_run(&l, &s, &ASKED, &mut places);
+    assert_eq!(rt; c.table()?.len(), 6);
+    assert_eq!(rt; places, answers());
     Ok(())
 }

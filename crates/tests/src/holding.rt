@@ -2,7 +2,7 @@
 
 ghost use Rattle.std.specs.Prelude.{◌<◌};
 
-use crate::building::image;
+use crate::building::{image, loaded};
 use image::slot::Slot;
 use image::stored::StoredModel;
 use kripke::model::Model;
@@ -15,7 +15,7 @@ use std::process::Abort;
 use std::test::Fail;
 
 // The model has this initial state, and these successors in their order, a list a state.
-fn moves<M: Model>(rt: &impl Abort, model: &M, initial: usize, successors: &[&[usize]]) {
+pub(crate) fn moves<M: Model>(rt: &impl Abort, model: &M, initial: usize, successors: &[&[usize]]) {
     assert_eq!(rt; model.states(), successors.len());
     assert_eq!(rt; model.initial(), initial);
     for (s, next) in successors.iter().enumerate() {
@@ -51,65 +51,70 @@ fn fresh(rt: HostRuntime) -> Result<(), Fail> {
 }
 
 // Three states and five links, some shared: no two fields of a record are equal.
+const SMALL: [u8; 52] = [
+    1, 0, 3, 0, 5, 0, 2, 0, //
+    17, 34, 51, 68, 4, 0, 0, 0, //
+    85, 102, 119, 136, 3, 0, 0, 0, //
+    153, 170, 187, 204, 5, 0, 0, 0, //
+    2, 0, 0, 0, 0, 0, 1, 0, //
+    1, 0, 2, 0, 2, 0, 3, 0, //
+    1, 0, 0, 0,
+];
+
+const SUCCESSORS: [&[usize]; 3] = [&[2, 1, 0, 2], &[1, 0, 2], &[1]];
+
 #[test]
 fn small_images(rt: HostRuntime) -> Result<(), Fail> {
-    let mut image = [
-        1, 0, 3, 0, 5, 0, 2, 0, //
-        17, 34, 51, 68, 4, 0, 0, 0, //
-        85, 102, 119, 136, 3, 0, 0, 0, //
-        153, 170, 187, 204, 5, 0, 0, 0, //
-        2, 0, 0, 0, 0, 0, 1, 0, //
-        1, 0, 2, 0, 2, 0, 3, 0, //
-        1, 0, 0, 0,
-    ];
-    let successors: [&[usize]; 3] = [&[2, 1, 0, 2], &[1, 0, 2], &[1]];
-    let mut words = StoredModel::<SignalWord>::new(rt.alloc())?;
-    words.load(&image, Slot::First)?;
-    moves(&rt, &words, 2, &successors);
+    let words = loaded::<SignalWord>(rt.alloc(), &SMALL)?;
+    moves(&rt, &words, 2, &SUCCESSORS);
     for (s, word) in [0x44332211, 0x88776655, 0xCCBBAA99].iter().enumerate() {
         assert_eq!(rt; words.label(s), SignalWord(*word));
     }
+    let mut image = SMALL;
     image[0] = 2;
     let mut readings = StoredModel::<Reading>::new(rt.alloc())?;
     readings.load(&image, Slot::Second)?;
-    moves(&rt, &readings, 2, &successors);
-    assert_eq!(rt; Some(readings.label(0)), Reading::new(17, 34, 51, 68));
-    assert_eq!(rt; Some(readings.label(1)), Reading::new(85, 102, 119, 136));
-    assert_eq!(rt; Some(readings.label(2)), Reading::new(153, 170, 187, 204));
+    moves(&rt, &readings, 2, &SUCCESSORS);
+    for (s, level, fault, pre_alarm, alarm) in [
+        (0, 17, 34, 51, 68),
+        (1, 85, 102, 119, 136),
+        (2, 153, 170, 187, 204),
+    ] {
+        let reading = Reading::new(level, fault, pre_alarm, alarm);
+        assert_eq!(rt; Some(readings.label(s)), reading);
+    }
     Ok(())
 }
 
-// The numbers of 256 states and 770 links, which need two bytes: state s has the links 257 + s and 513 + s.
+// The image of 256 states and 770 links, whose numbers need two bytes: state s has the links 257 + s and 513 + s.
+fn two_bytes(heap: Global) -> Result<Vec<u8>, Fail> {
+    let mut states = Vec::new(heap);
+    let mut links = Vec::new(heap);
+    for s in 0..=255u8 {
+        states.push(([s, 3, 2, 1], 257 + u16::from(s)))?;
+    }
+    for _ in 1..257 {
+        links.push((7, 770))?;
+    }
+    for l in 257..513u16 {
+        links.push((l - 257, l + 256))?;
+    }
+    for _ in 513..771 {
+        links.push((199, 0))?;
+    }
+    image(heap, 1, 200, states.as_slice(), links.as_slice())
+}
+
 #[test]
 fn numbers_of_two_bytes(rt: HostRuntime) -> Result<(), Fail> {
-    let heap = rt.alloc();
-    let states: Vec<_> = (0..=255)
-        .map(|s: u8| ([s, 3, 2, 1], 257 + u16::from(s)))
-        .collect(heap)?;
-    let links: Vec<_> = (1..=770)
-        .map(|l: u16| if l < 257 {
-            (7, 770)
-        } else if l < 513 {
-            (l - 257, l + 256)
-        } else {
-            (199, 0)
-        })
-        .collect(heap)?;
-    let bytes = image(heap, 1, 200, states.as_slice(), links.as_slice())?;
+    let bytes = two_bytes(rt.alloc())?;
     assert!(rt; bytes.starts_with(&[1, 0, 0, 1, 2, 3, 200, 0, 0, 3, 2, 1, 1, 1, 0, 0]));
-    let mut model = StoredModel::<SignalWord>::new(heap)?;
-    model.load(bytes.as_slice(), Slot::First)?;
+    let model = loaded::<SignalWord>(rt.alloc(), bytes.as_slice())?;
     assert_eq!(rt; (model.states(), model.initial()), (256, 200));
     for s in 0..256usize {
         assert_eq!(rt; model.label(s), SignalWord(0x01020300 + s as u32));
-        assert_eq!(rt;
-            (
-                model.degree(s),
-                model.successor(s, 0),
-                model.successor(s, 1)
-            ),
-            (2, s, 199)
-        );
+        assert_eq!(rt; model.degree(s), 2);
+        assert_eq!(rt; (model.successor(s, 0), model.successor(s, 1)), (s, 199));
     }
     Ok(())
 }

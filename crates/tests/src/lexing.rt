@@ -1,8 +1,8 @@
 // Tests of the reader's tokens: each byte, alone and among others, from the grammar.
 
+use crate::building::read;
 use kripke::node::Node;
 use kripke::refusal::{Cause, Layer};
-use reader::read_formula;
 use std::process::Abort;
 
 // What is expected of a text: so many nodes, or that nothing continues at this place.
@@ -12,16 +12,13 @@ enum Expected {
 }
 
 // The text is read, or refused with number 10, as expected, on 32 questions.
-fn read(rt: &impl Abort, text: &[u8], expected: Expected) {
+fn expect(rt: &impl Abort, text: &[u8], expected: Expected) {
     let wanted = match expected {
         Expected::Nodes(count) => Ok(count),
         Expected::Stops(place) => Err(Layer::Text.refusal(Cause::Unexpected, place)),
     };
-    assert_eq!(rt;
-        read_formula(text, 32, &mut [Node::default(); 9]),
-        wanted,
-        "{text:?}"
-    );
+    let outcome = read(text, 32, &mut [Node::default(); 9]);
+    assert_eq!(rt; outcome, wanted, "{text:?}");
 }
 
 // The byte alone is the whole text: only T is a formula, and after a space, a sign that begins a formula, and E and A the end is not expected.
@@ -82,12 +79,12 @@ fn after_path(byte: u8) -> Expected {
 #[test]
 fn bytes(rt: HostRuntime) {
     for byte in 0..=255 {
-        read(&rt, &[byte], alone(byte));
-        read(&rt, &[b'!', byte, b'T'], after_not(byte));
-        read(&rt, &[b'(', b'T', byte, b'T', b')'], joining(byte));
-        read(&rt, &[b'q', byte], after_q(byte));
-        read(&rt, &[b'q', b'1', byte], after_digit(byte));
-        read(&rt, &[b'E', byte, b'T'], after_path(byte));
-        read(&rt, &[b'A', byte, b'T'], after_path(byte));
+        expect(&rt, &[byte], alone(byte));
+        expect(&rt, &[b'!', byte, b'T'], after_not(byte));
+        expect(&rt, &[b'(', b'T', byte, b'T', b')'], joining(byte));
+        expect(&rt, &[b'q', byte], after_q(byte));
+        expect(&rt, &[b'q', b'1', byte], after_digit(byte));
+        expect(&rt, &[b'E', byte, b'T'], after_path(byte));
+        expect(&rt, &[b'A', byte, b'T'], after_path(byte));
     }
 }

@@ -2,16 +2,13 @@
 
 ghost use Rattle.std.specs.Prelude.{◌<◌};
 
-use crate::building::{image, stored};
-use compare::comparison::Comparison;
-use compare::verdict::{Outcome, Verdict};
-use evaluator::{Evaluation, evaluate};
+use crate::building::{closed, evaluated, holds, image, job, lines, print, stored, table, tower};
+use compare::verdict::Outcome;
+use evaluator::Evaluation;
 use image::stored::StoredModel;
 use kripke::node::Node;
 use kripke::operator::Operator;
 use labels::signal::SignalWord;
-use pair_job::job::compare_images;
-use printer::print_formula;
 use report::report::Report;
 use report::write::report_text;
 use std::alloc::Global;
@@ -42,12 +39,11 @@ fn panel(heap: Global, back: u16, step: u16, every: u16, r: u16) -> Result<Vec<u
 // Two panels with a long report: more than 1,800 nodes, of 2,045 at most.
 #[test]
 fn long_report(rt: HostRuntime) -> Result<(), Fail> {
-    let mut input = panel(rt.alloc(), 202, 30, 4, 3)?;
-    let second = panel(rt.alloc(), 219, 52, 2, 0)?;
-    input.extend_from_slice(second.as_slice())?;
-    let text = compare_images(rt.alloc(), input.as_slice())?;
-    let lines = text.iter().filter(|byte| **byte == b'\n').count();
-    assert!(rt; text.starts_with(b"differ 51 ") && lines > 1800);
+    let heap = rt.alloc();
+    let first = panel(heap, 202, 30, 4, 3)?;
+    let second = panel(heap, 219, 52, 2, 0)?;
+    let text = job(heap, first.as_slice(), second.as_slice())?;
+    assert!(rt; text.starts_with(b"differ 51 ") && lines(text.as_slice()) > 1800);
     Ok(())
 }
 
@@ -64,9 +60,7 @@ fn largest_report(rt: HostRuntime) -> Result<(), Fail> {
         rounds: 65535,
         nodes: &[largest; 2045],
     };
-    let Ok(text) = report_text(rt.alloc(), report) else {
-        return Err(Fail::new("no text"));
-    };
+    let text = report_text(rt.alloc(), report)?;
     assert_eq!(rt;
         text.len(),
         18 + 2045 * 17 + 10 + 2 * 90 + 3 * 900 + 4 * 1045
@@ -79,22 +73,19 @@ fn largest_report(rt: HostRuntime) -> Result<(), Fail> {
 // A formula of 1,024 leaves T has a text of 4,093 bytes; with three signs ! before it, it has 4,096.
 #[test]
 fn longest_text(rt: HostRuntime) -> Result<(), Fail> {
-    let mut nodes = [Node::new(Operator::Truth, 0, 0); 15];
-    for (i, node) in (0..14).zip(nodes.iter_mut().skip(1)) {
-        *node = match i {
-            0..10 => Node::new(Operator::And, i, i),
-            _ => Node::new(Operator::Not, i, 0),
-        };
+    let heap = rt.alloc();
+    let mut nodes = tower(heap, Node::default(), Operator::And, true, 10)?;
+    for before in 10..13 {
+        nodes.push(Node::new(Operator::Not, before, 0))?;
     }
-    let Some(text) = print_formula(rt.alloc(), &nodes[..14], 1)? else {
-        return Err(Fail::new("not printed"));
-    };
+    let text = print(heap, nodes.as_slice(), 1)?.ok_or("not printed")?;
     assert_eq!(rt; text.len(), 4096);
     assert!(rt;
         text.as_bytes()
             .starts_with(b"!!!((((((((((T&T)&(T&T))&((T&T)&(T&T)))&")
     );
-    assert!(rt; print_formula(rt.alloc(), &nodes, 1)?.is_none());
+    nodes.push(Node::new(Operator::Not, 13, 0))?;
+    assert!(rt; print(heap, nodes.as_slice(), 1)?.is_none());
     Ok(())
 }
 
@@ -102,54 +93,52 @@ fn longest_text(rt: HostRuntime) -> Result<(), Fail> {
 fn wide(heap: Global, last: [u8; 4]) -> Result<StoredModel<SignalWord>, Fail> {
     let mut states = vec![in heap; ([255, 255, 255, 255], 1); 255]?;
     states.push((last, 1))?;
-    let links: Vec<_> = (1..=16)
-        .map(|l: u16| (l + 239, if l < 16 { l + 1 } else { 0 }))
-        .collect(heap)?;
+    let mut links = Vec::new(heap);
+    for l in 1..16 {
+        links.push((l + 239, l + 1))?;
+    }
+    links.push((255, 0))?;
     stored(heap, states.as_slice(), links.as_slice())
 }
 
 // They are compared in one round, and the formula of the difference is evaluated on both.
 #[test]
 fn largest_models(rt: HostRuntime) -> Result<(), Fail> {
-    let bright = wide(rt.alloc(), [255, 255, 255, 255])?;
-    let dimmed = wide(rt.alloc(), [255, 255, 255, 127])?;
-    for (second, outcome) in [(&bright, Outcome::Alike), (&dimmed, Outcome::Different)] {
-        let mut c = Comparison::open(&bright, second);
-        c.close();
-        assert_eq!(rt; c.verdict(), Ok(Verdict { rounds: 1, outcome }));
-    }
-    let mut c = Comparison::open(&bright, &dimmed);
-    c.close();
-    let mut words = [0; 8180];
-    assert!(rt; evaluate(&bright, c.table()?, &mut words)?.holds);
-    assert!(rt; !evaluate(&dimmed, c.table()?, &mut words)?.holds);
+    let heap = rt.alloc();
+    let bright = wide(heap, [255, 255, 255, 255])?;
+    let dimmed = wide(heap, [255, 255, 255, 127])?;
+    closed(&rt, &bright, &bright, 1, Outcome::Alike);
+    let c = closed(&rt, &bright, &dimmed, 1, Outcome::Different);
+    assert!(rt; holds(heap, &bright, c.table()?)?);
+    assert!(rt; !holds(heap, &dimmed, c.table()?)?);
     Ok(())
 }
 
 const ALL: u64 = 0xFFFFFFFFFFFFFFFF;
 
+const NODES: [(Operator, u16, u16); 4] = [
+    (Operator::Question, 31, 0),
+    (Operator::Not, 0, 0),
+    (Operator::AX, 0, 0),
+    (Operator::EX, 1, 0),
+];
+
+const ROWS: [[u64; 4]; 4] = [
+    [ALL, ALL, ALL, 0x7FFFFFFFFFFFFFFF],
+    [0, 0, 0, 0x8000000000000000],
+    [0, 0, 0, 0],
+    [ALL, ALL, ALL, ALL],
+];
+
 // The last question of the last state, and what leads there.
 #[test]
 fn last_bits(rt: HostRuntime) -> Result<(), Fail> {
-    let dimmed = wide(rt.alloc(), [255, 255, 255, 127])?;
-    let nodes = [
-        Node::new(Operator::Question, 31, 0),
-        Node::new(Operator::Not, 0, 0),
-        Node::new(Operator::AX, 0, 0),
-        Node::new(Operator::EX, 1, 0),
-    ];
-    let rows = [
-        [ALL, ALL, ALL, 0x7FFFFFFFFFFFFFFF],
-        [0, 0, 0, 0x8000000000000000],
-        [0, 0, 0, 0],
-        [ALL, ALL, ALL, ALL],
-    ];
+    let heap = rt.alloc();
+    let dimmed = wide(heap, [255, 255, 255, 127])?;
+    let nodes = table(heap, &NODES)?;
     let root = Evaluation {
         holds: true,
         count: 256,
     };
-    let mut words = [9; 16];
-    assert_eq!(rt; evaluate(&dimmed, &nodes, &mut words), Ok(root));
-    assert_eq!(rt; words.as_chunks().0, rows.as_slice());
-    Ok(())
+    evaluated(&rt, heap, &dimmed, nodes.as_slice(), &ROWS, root)
 }

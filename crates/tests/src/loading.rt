@@ -1,5 +1,7 @@
 // Tests of the loader at the boundary of each refusal. Every refused load must leave the holder as it was.
 
+use crate::building::{image, loaded};
+use crate::holding::moves;
 use image::slot::Slot;
 use image::stored::StoredModel;
 use kripke::label::Label;
@@ -7,33 +9,18 @@ use kripke::model::Model;
 use kripke::refusal::{Cause, Layer};
 use labels::reading::Reading;
 use labels::signal::SignalWord;
-use std::alloc::{AllocError, Global};
+use std::alloc::Global;
 use std::process::Abort;
 use std::test::Fail;
 
-fn push_number(image: &mut Vec<u8>, n: u16) -> Result<(), AllocError> {
-    image.extend(n.to_le_bytes())
-}
-
 // An image of signal words: n states that all have the chain from link 1, and m links, each to state 0 and to the next link, but for the last.
-fn chained(heap: Global, n: u16, m: u16) -> Result<Vec<u8>, AllocError> {
-    let mut image = Vec::new(heap);
-    image.push(1)?;
-    image.push(0)?;
-    push_number(&mut image, n)?;
-    push_number(&mut image, m)?;
-    push_number(&mut image, 0)?;
-    for _ in 0..n {
-        push_number(&mut image, 7)?;
-        push_number(&mut image, 0)?;
-        push_number(&mut image, 1)?;
-        push_number(&mut image, 0)?;
+fn chained(heap: Global, n: u16, m: u16) -> Result<Vec<u8>, Fail> {
+    let states = vec![in heap; ([7, 0, 0, 0], 1); n as usize]?;
+    let mut links = Vec::new(heap);
+    for l in 1..=m {
+        links.push((0, if l < m { l + 1 } else { 0 }))?;
     }
-    for l in 0..m {
-        push_number(&mut image, 0)?;
-        push_number(&mut image, if l + 1 < m { l + 2 } else { 0 })?;
-    }
-    Ok(image)
+    image(heap, 1, 0, states.as_slice(), links.as_slice())
 }
 
 // The image with one byte changed, where it has that byte.
@@ -46,26 +33,20 @@ fn patched(mut image: Vec<u8>, at: usize, byte: u8) -> Vec<u8> {
 
 // A holder of two states, 0 with word 5 and 1 with word 6, that lead to each other; 1 is initial.
 fn held(heap: Global) -> Result<StoredModel<SignalWord>, Fail> {
-    let image = [
-        1, 0, 2, 0, 2, 0, 1, 0, 5, 0, 0, 0, 1, 0, 0, 0, 6, 0, 0, 0, 2, 0, 0, 0, 1, 0, 0, 0, 0, 0,
-        0, 0,
-    ];
-    let mut model = StoredModel::new(heap)?;
-    match model.load(&image, Slot::First) {
-        Ok(()) => Ok(model),
-        Err(_) => Err(Fail::new("the holder's image is refused")),
-    }
+    loaded(heap, &HELD)
 }
 
+const HELD: [u8; 32] = [
+    1, 0, 2, 0, 2, 0, 1, 0, //
+    5, 0, 0, 0, 1, 0, 0, 0, //
+    6, 0, 0, 0, 2, 0, 0, 0, //
+    1, 0, 0, 0, 0, 0, 0, 0,
+];
+
 fn still_held(rt: &impl Abort, model: &StoredModel<SignalWord>) {
-    assert_eq!(rt; model.states(), 2);
-    assert_eq!(rt; model.initial(), 1);
+    moves(rt, model, 1, &[&[1], &[0]]);
     assert_eq!(rt; model.label(0), SignalWord(5));
     assert_eq!(rt; model.label(1), SignalWord(6));
-    assert_eq!(rt; model.degree(0), 1);
-    assert_eq!(rt; model.successor(0, 0), 1);
-    assert_eq!(rt; model.degree(1), 1);
-    assert_eq!(rt; model.successor(1, 0), 0);
 }
 
 // The image is refused for this cause at this place, as a second image, and the holder stays.
@@ -178,22 +159,23 @@ fn first_fault(rt: HostRuntime) -> Result<(), Fail> {
     refused(&rt, heap, target, Cause::LinkRecord, 16)
 }
 
+// An image of one reading of level 7, with these limits.
+fn limits(heap: Global, fault: u8, pre_alarm: u8, alarm: u8) -> Result<Vec<u8>, Fail> {
+    image(heap, 2, 0, &[([7, fault, pre_alarm, alarm], 1)], &[(0, 0)])
+}
+
 #[test]
 fn readings(rt: HostRuntime) -> Result<(), Fail> {
     let heap = rt.alloc();
     let mut model = StoredModel::<Reading>::new(heap)?;
     assert!(rt; model.label(0).answer(0));
-    let rising = patched(
-        patched(patched(patched(chained(heap, 1, 1)?, 0, 2), 9, 5), 10, 50),
-        11,
-        60,
-    );
-    assert!(rt; model.load(rising.as_slice(), Slot::First).is_ok());
+    model.load(limits(heap, 5, 50, 60)?.as_slice(), Slot::First)?;
     assert!(rt; !model.label(0).answer(0));
-    match model.load(patched(rising, 10, 60).as_slice(), Slot::First) {
-        Err(refusal) => assert_eq!(rt; refusal.cause, Cause::StateRecord),
-        _ => return Err(Fail::new("the limits do not rise")),
-    }
+    let refused = model.load(limits(heap, 5, 60, 60)?.as_slice(), Slot::First);
+    assert_eq!(rt;
+        refused,
+        Err(Layer::FirstImage.refusal(Cause::StateRecord, 8))
+    );
     assert!(rt; !model.label(0).answer(0));
     Ok(())
 }

@@ -3,12 +3,11 @@
 ghost use Rattle.std.specs.Prelude.{false, [], ◌∷◌};
 ghost use Rattle.std.proofs.Common.{rules};
 
-use compare::comparison::Comparison;
-use compare::verdict::{Outcome, Verdict};
-use evaluator::{Evaluation, evaluate};
+use crate::building::{closed, evaluated, table};
+use compare::verdict::Outcome;
+use evaluator::Evaluation;
 use kripke::label::Label;
 use kripke::model::Model as KripkeModel;
-use kripke::node::Node;
 use kripke::operator::Operator;
 use std::test::Fail;
 
@@ -77,28 +76,20 @@ impl KripkeModel for Lamps {
     }
 }
 
+const NODES: [(Operator, u16, u16); 2] = [(Operator::Question, 0, 0), (Operator::AX, 0, 0)];
+
 #[test]
 fn compared(rt: HostRuntime) -> Result<(), Fail> {
+    let heap = rt.alloc();
     let (dark, lit) = (Lamps { lit: false }, Lamps { lit: true });
-    let nodes = [
-        Node::new(Operator::Question, 0, 0),
-        Node::new(Operator::AX, 0, 0),
-    ];
-    for (first, second, outcome) in [
-        (&lit, &lit, Outcome::Alike),
-        (&dark, &dark, Outcome::Alike),
-        (&lit, &dark, Outcome::Different),
-    ] {
-        let mut c = Comparison::open(first, second);
-        c.close();
-        assert_eq!(rt; c.verdict(), Ok(Verdict { rounds: 1, outcome }));
-    }
-    let mut words = [0; 8];
+    closed(&rt, &lit, &lit, 1, Outcome::Alike);
+    closed(&rt, &dark, &dark, 1, Outcome::Alike);
+    closed(&rt, &lit, &dark, 1, Outcome::Different);
+    let nodes = table(heap, &NODES)?;
     let root = Evaluation {
         holds: true,
         count: 2,
     };
-    assert_eq!(rt; evaluate(&lit, &nodes, &mut words), Ok(root));
-    assert_eq!(rt; words, [2, 0, 0, 0, 3, 0, 0, 0]);
-    Ok(())
+    let rows = [[2, 0, 0, 0], [3, 0, 0, 0]];
+    evaluated(&rt, heap, &lit, nodes.as_slice(), &rows, root)
 }

@@ -7,6 +7,7 @@ use compare::requests::{Answer, Request};
 use compare::verdict::{Outcome, Verdict};
 use kripke::refusal::{Cause, Layer, Refusal};
 use std::alloc::{AllocError, Global};
+use std::process::Abort;
 use std::test::Fail;
 
 type Told = Result<Answer, Refusal>;
@@ -71,23 +72,18 @@ fn more_places(rt: HostRuntime) -> Result<(), Fail> {
     Ok(())
 }
 
-// With fewer places than requests, the requests past the places are not looked at: asked later they are answered as ever.
-// Nothing that is asked without a round changes what is answered later, before the rounds and after them.
-#[test]
-fn fewer_places(rt: HostRuntime) -> Result<(), Fail> {
-    let heap = rt.alloc();
-    let mut c = Comparison::open(&chain(heap, ONE)?, &chain(heap, DARK)?);
-    let open = [
-        Ok(Answer::Class(0)),
-        refused(Cause::OpenComparison, 0),
-        refused(Cause::NotDifferent, 0),
-    ];
-    let asked = [Request::Class(300), Request::Verdict, Request::Formula(9)];
-    let mut again = [NOTHING; 3];
-    c.run(&asked, &mut again);
-    assert_eq!(rt; again, open);
-    c.run(&asked, &mut again);
-    assert_eq!(rt; again, open);
+// What is asked between, twice; nothing of it is a round.
+fn asked(rt: &impl Abort, c: &mut Comparison, told: &[Told; 3]) {
+    let requests = [Request::Class(300), Request::Verdict, Request::Formula(9)];
+    for _ in 0..2 {
+        let mut places = [NOTHING; 3];
+        c.run(&requests, &mut places);
+        assert_eq!(rt; places, *told);
+    }
+}
+
+// The first places are written alone, and the rest when it is asked for.
+fn in_parts(rt: &impl Abort, heap: Global, c: &mut Comparison) -> Result<(), Fail> {
     let requests = requests(heap)?;
     assert_eq!(rt; requests.len(), 515);
     let mut places = [NOTHING; 515];
@@ -95,14 +91,28 @@ fn fewer_places(rt: HostRuntime) -> Result<(), Fail> {
     assert_eq!(rt; &places[101..], [NOTHING; 414].as_slice());
     c.run(&requests[101..], &mut places[101..]);
     assert_eq!(rt; places.as_slice(), answers(heap)?.as_slice());
+    Ok(())
+}
+
+// With fewer places than requests, the requests past the places are not looked at: asked later they are answered as ever.
+// Nothing that is asked without a round changes what is answered later, before the rounds and after them.
+#[test]
+fn fewer_places(rt: HostRuntime) -> Result<(), Fail> {
+    let heap = rt.alloc();
+    let (lit, dark) = (chain(heap, ONE)?, chain(heap, DARK)?);
+    let mut c = Comparison::open(&lit, &dark);
+    let open = [
+        Ok(Answer::Class(0)),
+        refused(Cause::OpenComparison, 0),
+        refused(Cause::NotDifferent, 0),
+    ];
+    asked(&rt, &mut c, &open);
+    in_parts(&rt, heap, &mut c)?;
     let closed = [
         Ok(Answer::Class(256)),
         VERDICT,
         refused(Cause::FewPlaces, 9),
     ];
-    c.run(&asked, &mut again);
-    assert_eq!(rt; again, closed);
-    c.run(&asked, &mut again);
-    assert_eq!(rt; again, closed);
+    asked(&rt, &mut c, &closed);
     Ok(())
 }

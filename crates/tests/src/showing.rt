@@ -16,7 +16,6 @@ use rules::rule::Rule;
 use std::alloc::Global;
 use std::fmt::Debug;
 use std::process::Abort;
-use std::test::Fail;
 
 // The value is shown so, and is itself and no other one.
 fn shown<T: Debug + PartialEq + Copy>(
@@ -25,36 +24,36 @@ fn shown<T: Debug + PartialEq + Copy>(
     value: T,
     other: T,
     text: &str,
-) -> Result<(), Fail> {
-    assert!(rt; value == value && value != other);
-    let shown = format!(in heap; "{value:?}")?;
+) {
+    assert!(rt; value == value);
+    assert!(rt; value != other);
+    let shown = format!(in heap; "{value:?}").expect(rt, "memory");
     assert_eq!(rt; shown.as_str(), text);
-    Ok(())
 }
 
 #[test]
-fn values(rt: HostRuntime) -> Result<(), Fail> {
+fn values(rt: HostRuntime) {
     let heap = rt.alloc();
-    shown(&rt, heap, Slot::First, Slot::Second, "First")?;
-    shown(&rt, heap, Kind::Readings, Kind::SignalWords, "Readings")?;
-    shown(&rt, heap, UnknownKind(7), UnknownKind(8), "UnknownKind(7)")?;
-    shown(&rt, heap, Cause::TooDeep, Cause::ManyNodes, "TooDeep")?;
-    shown(&rt, heap, Layer::Text, Layer::Rules, "Text")?;
-    shown(&rt, heap, Operator::AF, Operator::EG, "AF")?;
+    shown(&rt, heap, Slot::First, Slot::Second, "First");
+    shown(&rt, heap, Kind::Readings, Kind::SignalWords, "Readings");
+    shown(&rt, heap, UnknownKind(7), UnknownKind(8), "UnknownKind(7)");
+    shown(&rt, heap, Cause::TooDeep, Cause::ManyNodes, "TooDeep");
+    shown(&rt, heap, Layer::Text, Layer::Rules, "Text");
+    shown(&rt, heap, Operator::AF, Operator::EG, "AF");
     shown(
         &rt,
         heap,
         UnknownCode(13),
         UnknownCode(14),
         "UnknownCode(13)",
-    )?;
-    shown(&rt, heap, Quantifier::ForAll, Quantifier::Exists, "ForAll")?;
-    shown(&rt, heap, SignalWord(5), SignalWord(6), "SignalWord(5)")?;
-    shown(&rt, heap, Outcome::Alike, Outcome::Different, "Alike")
+    );
+    shown(&rt, heap, Quantifier::ForAll, Quantifier::Exists, "ForAll");
+    shown(&rt, heap, SignalWord(5), SignalWord(6), "SignalWord(5)");
+    shown(&rt, heap, Outcome::Alike, Outcome::Different, "Alike");
 }
 
 #[test]
-fn records(rt: HostRuntime) -> Result<(), Fail> {
+fn records(rt: HostRuntime) {
     let heap = rt.alloc();
     let refusal = Layer::Text.refusal(Cause::TooDeep, 64);
     shown(
@@ -63,22 +62,22 @@ fn records(rt: HostRuntime) -> Result<(), Fail> {
         refusal,
         Layer::Text.refusal(Cause::TooDeep, 65),
         "Refusal { cause: TooDeep, layer: Text, place: 64 }",
-    )?;
-    shown(&rt, heap, Error::Memory, Error::Refused(refusal), "Memory")?;
+    );
+    shown(&rt, heap, Error::Memory, Error::Refused(refusal), "Memory");
     shown(
         &rt,
         heap,
         Error::Refused(refusal),
         Error::Memory,
         "Refused(Refusal { cause: TooDeep, layer: Text, place: 64 })",
-    )?;
+    );
     shown(
         &rt,
         heap,
         Node::new(Operator::AU, 258, 3),
         Node::new(Operator::AU, 258, 4),
         "Node { code: 12, a: 258, b: 3 }",
-    )?;
+    );
     assert_eq!(rt; Node::default(), Node::new(Operator::Truth, 0, 0));
     let rule = Rule {
         care: 1,
@@ -99,7 +98,7 @@ fn records(rt: HostRuntime) -> Result<(), Fail> {
         rule,
         none,
         "Rule { care: 1, need: 2, set: 3, clear: 4 }",
-    )?;
+    );
     let reading = Reading::new(9, 5, 50, 60);
     shown(
         &rt,
@@ -107,15 +106,15 @@ fn records(rt: HostRuntime) -> Result<(), Fail> {
         reading,
         Reading::new(9, 5, 50, 61),
         "Some(Reading { level: 9, fault: 5, pre_alarm: 50, alarm: 60 })",
-    )?;
+    );
     shown(
         &rt,
         heap,
         Request::Class(7),
         Request::Formula(7),
         "Class(7)",
-    )?;
-    shown(&rt, heap, Request::Round, Request::Verdict, "Round")?;
+    );
+    shown(&rt, heap, Request::Round, Request::Verdict, "Round");
     let verdict = Verdict {
         rounds: 3,
         outcome: Outcome::Different,
@@ -126,7 +125,7 @@ fn records(rt: HostRuntime) -> Result<(), Fail> {
         Answer::Verdict(verdict),
         Answer::Round(3),
         "Verdict(Verdict { rounds: 3, outcome: Different })",
-    )?;
+    );
     let evaluation = Evaluation {
         holds: true,
         count: 5,
@@ -140,7 +139,7 @@ fn records(rt: HostRuntime) -> Result<(), Fail> {
             count: 5,
         },
         "Evaluation { holds: true, count: 5 }",
-    )?;
+    );
     shown(
         &rt,
         heap,
@@ -150,5 +149,5 @@ fn records(rt: HostRuntime) -> Result<(), Fail> {
             nodes: &[],
         },
         "Alike { rounds: 3 }",
-    )
+    );
 }
