@@ -17,14 +17,8 @@ use pair_job::job::compare_images;
 use printer::print_formula;
 use reader::read_formula;
 use std::alloc::{AllocError, Global};
-use std::fmt::Debug;
 use std::process::Abort;
 use std::test::Fail;
-
-// The two are equal. An assertion in a test itself tells its line too, and costs more to prove: this one stands where results of calls are compared.
-pub(crate) fn same<T: PartialEq + Debug>(rt: &impl Abort, one: &T, other: &T) {
-    assert_eq!(rt; one, other);
-}
 
 // An image of this kind and initial state: of each state its label and first link, and of each link its target and next link.
 pub(crate) fn image(

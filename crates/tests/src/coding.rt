@@ -1,6 +1,6 @@
 // Tests of the operators' codes, as literals: the operators, the texts that are read and printed, and the rows of an evaluation.
 
-use crate::building::{evaluated, loaded, print, read, same};
+use crate::building::{evaluated, loaded, print, read};
 use evaluator::Evaluation;
 use kripke::node::Node;
 use kripke::operator::{Operator, UnknownCode};
@@ -65,7 +65,7 @@ fn codes(rt: HostRuntime) {
 fn spelt(rt: &impl Abort, heap: Global, text: &str, nodes: &[Node]) -> Result<(), Fail> {
     let mut places = vec![in heap; Node::default(); nodes.len()]?;
     let count = read(text.as_bytes(), 32, places.as_mut_slice());
-    same(rt, &count, &Ok(nodes.len()));
+    assert_eq!(rt; count, Ok(nodes.len()));
     assert_eq!(rt; places.as_slice(), nodes);
     let printed = print(heap, nodes, 32)?.ok_or("not printed")?;
     assert_eq!(rt; printed.as_str(), text);

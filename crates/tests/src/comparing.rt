@@ -1,6 +1,6 @@
 // Tests of the comparison: stored models of both kinds, rule models, one of each, and models of 256 states.
 
-use crate::building::{DARK, ONE, chain, holds, same, stored};
+use crate::building::{DARK, ONE, chain, holds, stored};
 use compare::comparison::Comparison;
 use compare::requests::{Answer, Request};
 use compare::verdict::{Outcome, Verdict};
@@ -38,13 +38,17 @@ fn closes<L: Label, M: Model<Label = L>, N: Model<Label = L>>(
 ) -> Result<Comparison, Fail> {
     let mut comparison = Comparison::open(first, second);
     for k in 0..rounds {
-        let open = Err(refusal(Cause::OpenComparison, k));
-        same(rt, &comparison.verdict(), &open);
+        assert_eq!(rt;
+            comparison.verdict(),
+            Err(refusal(Cause::OpenComparison, k))
+        );
         comparison.round()?;
     }
-    same(rt, &comparison.verdict(), &Ok(Verdict { rounds, outcome }));
-    let closed = Err(refusal(Cause::ClosedComparison, rounds));
-    same(rt, &comparison.round(), &closed);
+    assert_eq!(rt; comparison.verdict(), Ok(Verdict { rounds, outcome }));
+    assert_eq!(rt;
+        comparison.round(),
+        Err(refusal(Cause::ClosedComparison, rounds))
+    );
     Ok(comparison)
 }
 
